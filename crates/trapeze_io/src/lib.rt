@@ -1,16 +1,24 @@
-//! Bytes, names, and where they are read from and written to.
+//! Bytes and names, and the files and sinks that they are read from and written to: the system's, and forms in memory
+//! that tell what they hold and fail where they are told to.
 #![tactic(auto)]
 
 mod bytes;
-mod memory;
-mod moves;
+mod failures;
+mod memory_files;
+mod memory_sink;
 mod names;
 mod real;
+mod script;
 mod streams;
+#[cfg(test)]
+mod tests;
+mod whole;
 
-pub use bytes::{Bytes, Failed, NoMemory};
-pub use memory::{MemFiles, MemSink};
-pub use moves::{ReadError, WriteError, read_whole, write_whole};
+pub use bytes::Bytes;
+pub use failures::{Failed, NoMemory};
+pub use memory_files::MemFiles;
+pub use memory_sink::MemSink;
 pub use names::Name;
 pub use real::{RealFiles, RealSink};
 pub use streams::{Files, Sink};
+pub use whole::{ReadError, WriteError, read_whole, write_whole};
