@@ -11,9 +11,13 @@ pub record Order : Type 0 where
 abbrev pub count : Order → ℕ
 count order = length order.names
 
+-- whether the rows say that a flows to b
+abbrev pub row_flows : List ℕ → ℕ → ℕ → Bool
+row_flows rows a b = a == b || (bit_at (slice_index rows a) b == 1)
+
 -- whether a flows to b
 abbrev pub flows : Order → ℕ → ℕ → Bool
-flows order a b = a == b || (bit_at (slice_index order.rows a) b == 1)
+flows order = row_flows order.rows
 
 -- where the name stands, if it does
 abbrev pub place_of : List ℕ → List (List ℕ) → Option ℕ

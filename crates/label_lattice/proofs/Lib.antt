@@ -1,0 +1,14 @@
+pub mod Places
+pub mod Reaches
+pub mod Bits
+pub mod Ranges
+pub mod Least
+pub mod Orders
+pub mod Naming
+pub mod Firsts
+pub mod Joining
+pub mod Lattices
+pub mod Whole
+pub mod Tops
+pub mod Built
+pub mod Joined

@@ -1,0 +1,5 @@
+use Rattle.label_lattice.proofs.Reaches.{exact_test}
+use Rattle.label_lattice.proofs.laws.law_of_flows.Goals as goal
+
+pub returns : goal.returns
+returns c = exact_test

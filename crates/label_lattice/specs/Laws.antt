@@ -1,0 +1,15 @@
+-- When names and pairs make a lattice.
+use Rattle.std.specs.Prelude.{◌≡◌, ℕ, List, None, Contains, ◌↔◌, length}
+use Rattle.label_lattice.specs.Reach.{closes}
+use Rattle.label_lattice.specs.Faults.{first_fault, numbered}
+use Rattle.label_lattice.specs.Sound.{AreNames, IsLattice}
+
+-- 1 to 64 different names, pairs of them, and by the pairs an order in which each two labels have a join and a meet
+pub record MakesLattice (names : List (List ℕ)) (pairs : List (List ℕ × List ℕ)) : Type 0 where
+  pub different : AreNames names
+  pub known : (pair : List ℕ × List ℕ) → Contains pairs pair → Contains names pair.0 × Contains names pair.1
+  pub lattice : IsLattice (length names) (closes (numbered names pairs))
+
+-- no fault is found exactly where the names and pairs make a lattice
+abbrev pub IsExactFault : Type 0
+IsExactFault = (names : List (List ℕ)) (pairs : List (List ℕ × List ℕ)) → (first_fault names pairs ≡ None) ↔ MakesLattice names pairs
