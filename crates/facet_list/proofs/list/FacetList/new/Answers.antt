@@ -1,0 +1,8 @@
+use Rattle.std.proofs.Common.{sym, subst, List}
+use Rattle.facet_list.specs.Store.{Write}
+use Rattle.facet_list.specs.Rows.{rows_of, IsStore}
+use Rattle.facet_list.proofs.Sizes.{store_empty}
+use Rattle.facet_list.proofs.list.FacetList.new.Goals as goal
+
+pub invariant_of-result : goal.invariant_of-result
+invariant_of-result c = record { sound = subst (λ (w : List Write). IsStore (rows_of w)) (sym c.new.ensures.items) store_empty }

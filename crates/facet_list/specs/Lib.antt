@@ -1,0 +1,4 @@
+pub mod Store
+pub mod Rows
+pub mod Walk
+pub mod Views

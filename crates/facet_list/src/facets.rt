@@ -1,0 +1,54 @@
+//! What a store of facets is.
+
+ghost use Rattle.std.specs.Prelude.{◌≡◌, ◌<◌, Ok, OnOk, OnErr, MatchOption, IfSome};
+ghost use Rattle.std.specs.Option.{option_copied};
+ghost use Rattle.label_lattice.specs.Order.{flows, count};
+ghost use Rattle.facet_list.specs.Store.{Write};
+ghost use Rattle.facet_list.specs.Rows.{Rows, row_of, rows_after, read_row, IsKey, IsValue, IsSized, IsStore, AreBelow};
+ghost use Rattle.facet_list.specs.Walk.{slot_after, NoneAfter, IsNext};
+
+use label_lattice::{Label, Lattice};
+use trapeze_io::NoMemory;
+
+/// How a write ended.
+#[derive(Debug, Clone, Copy, PartialEq, Eq, Drop)]
+pub enum Wrote {
+    /// The write was made.
+    Done,
+    /// The write does not fit the limits of its label, and nothing changed.
+    Full,
+}
+
+/// A store of facets: for each key a row of its live facets, one a label, in the order in which they were last written. A key has
+/// at most 1,024 bytes, and a value at most 65,536.
+pub trait Facets: Drop {
+    /// The row of each key.
+    ghost rows: { Self → Rows };
+
+    /// The value of the key's latest facet whose label flows to `at`: None where there is none or where it is absent.
+    fn read(&self, lattice: &Lattice, at: Label, key: &[u8]) -> Option<&[u8]>
+        requires at { at.number < count lattice.now }
+        requires labels { AreBelow (count lattice.now) (rows self.now) }
+        ensures value { option_copied result ≡ read_row (flows lattice.now) at.number (row_of (rows self.now) key.now) }
+        ensures sized { IsValue (option_copied result) };
+
+    /// Writes the key at a label, None for absent.
+    fn write(&mut self, at: Label, key: &[u8], value: Option<&[u8]>) -> Result<Wrote, NoMemory>
+        requires key { IsKey key.now }
+        requires value { IsValue (option_copied value) }
+        ensures done { OnOk result (rows self.new ≡ rows_after (rows self.old) (record { label = at.number; key = key.now; value = option_copied value.entry })) }
+        ensures never_full { OnOk result (result ≡ Ok Wrote.Done) }
+        ensures no_memory { OnErr result (rows self.new ≡ rows self.old) };
+
+    /// The least facet, by key in byte order and then by label, that is greater than `after`, or the least of all.
+    fn next_facet(
+        &self,
+        after: Option<(&Vec<u8>, Label)>,
+    ) -> Option<(&Vec<u8>, Label, Option<&[u8]>)>
+        ensures next { MatchOption result (NoneAfter (rows self.now) (slot_after after.entry))
+            (λ f. IsNext (rows self.now) (slot_after after.entry) (f.0.now.items, f.1.number) (option_copied f.2)) }
+        ensures sized { IfSome result (λ f. IsSized f.0.now.items (option_copied f.2)) };
+
+    /// Keys and values are within their sizes, and a row has at most one facet of a label.
+    ghost store: { (s : Self) → IsStore (rows s) };
+}

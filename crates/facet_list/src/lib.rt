@@ -1,0 +1,14 @@
+//! A store of labelled facets: what is written at a label is read where that label flows to, the latest first. The trait says what a
+//! store is, and the list of writes is the plainest of them.
+#![tactic(auto)]
+
+mod facets;
+mod laws;
+mod list;
+#[cfg(test)]
+mod tests;
+mod write;
+
+pub use facets::{Facets, Wrote};
+pub use laws::{noninterference_of_facets, rows_tell_facets, rows_tell_reads};
+pub use list::FacetList;
