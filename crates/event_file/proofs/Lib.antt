@@ -1,0 +1,5 @@
+pub mod Split
+pub mod Within
+pub mod Go
+pub mod Steps
+pub mod Due

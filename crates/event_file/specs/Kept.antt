@@ -1,0 +1,24 @@
+-- How a reader keeps what contracts see of it.
+use Rattle.std.specs.Prelude.{◌≡◌, ℕ, ◌+◌, ◌-◌, ◌^◌, ◌<◌, ◌≤◌, ◌==◌, List, length, drop}
+use Rattle.std.specs.List.{position_or_len}
+use Rattle.event_file.specs.Reading.{Reading}
+use Rattle.event_file.specs.declared.reader.EventReader.TheInside.{Inside}
+
+abbrev pub reading_of : Inside → Reading
+reading_of reader = record {
+  labels = reader.known.lattice.now.names;
+  clients = reader.known.clients.now;
+  functions = reader.known.functions.now;
+  kept = drop reader.start reader.buffer.items;
+  lines = reader.lines;
+  fed = reader.fed;
+  finished = reader.finished;
+  bad = reader.bad;
+}
+
+-- the bytes kept begin in the buffer, no line feed is among the first of them, and each line used had a byte
+pub record IsSound (reader : Inside) : Type 0 where
+  pub begins : reader.start + reader.searched ≤ length reader.buffer.items
+  pub no_end : reader.searched ≤ position_or_len (λ byte. byte == 10) (drop reader.start reader.buffer.items)
+  pub counted : reader.lines + (length reader.buffer.items - reader.start) ≤ reader.fed
+  pub few : reader.fed < 2 ^ 62

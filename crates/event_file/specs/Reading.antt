@@ -1,0 +1,45 @@
+-- What contracts see of a reader of an event file.
+use Rattle.std.specs.Prelude.{◌≡◌, ℕ, ◌+◌, ◌^◌, ◌<◌, List, [], ◌∷◌, ◌++◌, length, Bool, true, false, ◌&&◌, IsTrue, Option, Result}
+use Rattle.std.specs.Cmp.Lexicographic.{slice_cmp}
+use Rattle.std.specs.Ordering.{nat_cmp, is_lt}
+use Rattle.event_file.specs.Lines.{lines_of}
+use Rattle.event_file.specs.Script.{line_of, Entries, entries_from}
+use Rattle.event_file.specs.declared.entry.Entry.{Entry}
+use Rattle.event_file.specs.declared.fault.LineFault.{LineFault}
+use Rattle.event_file.specs.declared.fault.LineError.{LineError}
+
+-- the names that lines may use, the bytes fed and not yet used, the numbers of lines used and of bytes fed, whether
+-- the feeding has ended, and the bad line that was answered
+pub record Reading : Type 0 where
+  pub labels : List (List ℕ)
+  pub clients : List (List ℕ)
+  pub functions : List (List ℕ)
+  pub kept : List ℕ
+  pub lines : ℕ
+  pub fed : ℕ
+  pub finished : Bool
+  pub bad : Option LineError
+
+-- what a line says to a reader
+abbrev pub said_by : Reading → List ℕ → Result (Option Entry) LineFault
+said_by reading line = line_of reading.labels reading.clients reading.functions line
+
+-- the entries of the bytes kept and of more bytes after them, with the lines numbered on from those used
+abbrev pub entries_with : Reading → List ℕ → Entries
+entries_with reading more =
+    entries_from reading.labels reading.clients reading.functions (reading.lines + 1) (lines_of (reading.kept ++ more))
+
+-- the bytes are one line without an end
+abbrev pub IsOneLine : List ℕ → Type 0
+IsOneLine bytes = lines_of bytes ≡ bytes ∷ []
+
+-- each name stands before the next in byte order
+abbrev pub ascends : List (List ℕ) → Bool
+ascends [] = true
+ascends (name ∷ []) = true
+ascends (name ∷ next ∷ names) = is_lt (slice_cmp nat_cmp name next) && ascends (next ∷ names)
+
+-- names in byte order without repeats, that 32 bits can count
+pub record IsNumbered (names : List (List ℕ)) : Type 0 where
+  pub ascending : IsTrue (ascends names)
+  pub few : length names < 2 ^ 32
