@@ -1,0 +1,4 @@
+pub mod Tops
+pub mod Roundtrip
+pub mod Faults
+pub mod Shortest
