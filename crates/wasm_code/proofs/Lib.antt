@@ -1,0 +1,6 @@
+pub mod Joined
+pub mod Fielded
+pub mod Stepping
+pub mod Driven
+pub mod Closing
+pub mod Bodied
