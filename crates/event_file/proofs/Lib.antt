@@ -3,3 +3,4 @@ pub mod Within
 pub mod Go
 pub mod Steps
 pub mod Due
+pub mod Callers

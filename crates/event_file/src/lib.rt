@@ -11,6 +11,8 @@ mod line;
 mod next;
 mod places;
 mod reader;
+#[cfg(test)]
+mod tests;
 mod words;
 
 pub use entry::{Entry, Event};
