@@ -1,0 +1,10 @@
+pub mod Operators
+pub mod Data
+pub mod Threads
+pub mod Control
+pub mod Units
+pub mod Begin
+pub mod OfModule
+pub mod Taken
+pub mod Laws
+pub mod Examples
