@@ -1,5 +1,5 @@
 -- For callers that gather the entries of a file.
-use Rattle.std.proofs.Common.{◌≡◌, ◌+◌, List, [], ◌∷◌, ◌++◌, ℕ, sym, ap, ◌∙◌, append_assoc}
+use Rattle.std.proofs.Common.{◌≡◌, List, [], ◌∷◌, ◌++◌, ℕ, sym, ap, ◌∙◌, append_assoc}
 use Rattle.event_file.specs.Script.{Entries, after}
 use Rattle.event_file.specs.Reading.{Reading, entries_with}
 use Rattle.event_file.specs.declared.entry.Entry.{Entry}

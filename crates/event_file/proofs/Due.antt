@@ -1,12 +1,11 @@
 -- The answer of a reader is what the lines held say first.
-use Rattle.std.proofs.Common.{◌≡◌, ◌≢◌, ℕ, ◌<◌, Bool, true, false, cond, List, [], ◌∷◌, ◌++◌, length, Option, None, Some, Result, Ok, Err, ◌⊎◌, inl, inr, refl, sym, ap, ◌∙◌, subst, arith}
+use Rattle.std.proofs.Common.{◌≡◌, ◌≢◌, ℕ, ◌<◌, Bool, true, false, cond, List, [], ◌∷◌, ◌++◌, length, Option, None, Some, Result, Ok, Err, ◌⊎◌, inl, inr, refl, sym, ap, ◌∙◌, arith}
 use Rattle.event_file.specs.Lines.{lines_of, is_too_long}
-use Rattle.event_file.specs.Reading.{Reading, said_by, IsOneLine}
-use Rattle.event_file.specs.Calls.{SayNothing, Skips, Uses, Stops, IsShort, Waits, Advances, IsDue, first_said, or_later}
+use Rattle.event_file.specs.Reading.{Reading, said_by}
+use Rattle.event_file.specs.Calls.{SayNothing, Skips, Advances, IsDue, first_said, or_later}
 use Rattle.event_file.specs.declared.entry.Entry.{Entry}
 use Rattle.event_file.specs.declared.fault.LineFault.{LineFault}
 use Rattle.event_file.specs.declared.fault.LineFault.TheVariants.{Word}
-use Rattle.event_file.specs.declared.fault.LineError.{LineError}
 use Rattle.event_file.specs.declared.next.Next.{Next}
 use Rattle.event_file.specs.declared.next.Next.TheVariants as next
 use Rattle.event_file.proofs.Split.{some_part}

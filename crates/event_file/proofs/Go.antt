@@ -1,14 +1,13 @@
 -- How the answers of a reader go through the entries.
-use Rattle.std.proofs.Common.{◌≡◌, ◌≢◌, ℕ, suc, ◌+◌, ◌<◌, ◌≤◌, Bool, true, false, List, [], ◌∷◌, ◌++◌, length, Option, None, Some, Result, Ok, Err, ◌⊎◌, inl, inr, refl, sym, ap, ◌∙◌, subst, arith, append_assoc, length-append, nat_eq, take}
+use Rattle.std.proofs.Common.{◌≡◌, ◌≢◌, ℕ, suc, ◌+◌, ◌<◌, Bool, true, List, [], ◌∷◌, ◌++◌, length, Option, None, Some, Result, Ok, Err, ◌⊎◌, inl, inr, refl, sym, ap, ◌∙◌, arith, length-append, nat_eq, take}
 use Rattle.std.proofs.lemmas.List.{append-nil, take_all}
 use borrow.Author.Tests.{ltb-true, lt-ltb}
 use Rattle.event_file.specs.Lines.{lines_of, is_too_long, longest_line}
-use Rattle.event_file.specs.Script.{line_of, Entries, entries_from, after, onto, IsWithin}
+use Rattle.event_file.specs.Script.{Entries, entries_from, after, onto}
 use Rattle.event_file.specs.Reading.{Reading, said_by, entries_with, IsOneLine}
-use Rattle.event_file.specs.Calls.{SayNothing, Skips, Uses, Stops, IsReady, IsShort, Waits, Goes, Advances, Continues, bad_after}
+use Rattle.event_file.specs.Calls.{SayNothing, Skips, Uses, Stops, Advances, Continues}
 use Rattle.event_file.specs.declared.entry.Entry.{Entry}
 use Rattle.event_file.specs.declared.fault.LineFault.{LineFault}
-use Rattle.event_file.specs.declared.fault.LineFault.TheVariants.{Word}
 use Rattle.event_file.specs.declared.fault.LineError.{LineError}
 use Rattle.event_file.specs.declared.next.Next.{Next}
 use Rattle.event_file.specs.declared.next.Next.TheVariants as next

@@ -1,10 +1,10 @@
 -- The steps of a reader, by the first of the lines kept.
-use Rattle.std.proofs.Common.{◌≡◌, ◌≢◌, ℕ, suc, ◌+◌, ◌<◌, ◌≤◌, Bool, true, false, List, [], ◌∷◌, ◌++◌, length, Option, None, Some, Result, Ok, Err, inl, inr, refl, sym, ap, ◌∙◌, subst, arith, append_assoc, length-append, add-zero, take, drop}
+use Rattle.std.proofs.Common.{◌≡◌, ◌≢◌, ℕ, ◌+◌, ◌<◌, ◌≤◌, List, [], ◌∷◌, ◌++◌, length, None, Some, Ok, Err, inl, inr, refl, sym, ap, ◌∙◌, subst, arith, append_assoc, length-append, add-zero, take, drop}
 use borrow.Author.Tests.{lt-ltb, le-ltb}
-use Rattle.event_file.specs.Lines.{lines_of, is_too_long, longest_line}
+use Rattle.event_file.specs.Lines.{lines_of, longest_line}
 use Rattle.event_file.specs.Script.{IsWithin, line_of}
 use Rattle.event_file.specs.Reading.{Reading, said_by, IsOneLine}
-use Rattle.event_file.specs.Calls.{SayNothing, Skips, Uses, Stops, IsReady, IsShort, Waits, Goes, Advances, bad_after}
+use Rattle.event_file.specs.Calls.{SayNothing, Skips, Uses, Stops, IsShort, Advances, bad_after}
 use Rattle.event_file.specs.declared.entry.Entry.{Entry}
 use Rattle.event_file.specs.declared.fault.LineFault.{LineFault}
 use Rattle.event_file.specs.declared.fault.LineFault.TheVariants.{Word}

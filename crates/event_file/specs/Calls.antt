@@ -1,7 +1,7 @@
 -- What the calls of a reader of an event file do.
 use Rattle.std.specs.Prelude.{◌≡◌, ◌≢◌, ℕ, ◌+◌, ◌<◌, ◌==◌, ◌⊎◌, ⊤, List, [], ◌∷◌, ◌++◌, length, true, false, if◌then◌else◌, Option, None, Some, Result, Ok, Err}
 use Rattle.event_file.specs.Lines.{lines_of, is_too_long}
-use Rattle.event_file.specs.Script.{Entries, after, IsWithin}
+use Rattle.event_file.specs.Script.{after, IsWithin}
 use Rattle.event_file.specs.Reading.{Reading, said_by, entries_with, IsOneLine}
 use Rattle.event_file.specs.declared.entry.Entry.{Entry}
 use Rattle.event_file.specs.declared.fault.LineError.{LineError}

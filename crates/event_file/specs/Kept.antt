@@ -1,5 +1,5 @@
 -- How a reader keeps what contracts see of it.
-use Rattle.std.specs.Prelude.{◌≡◌, ℕ, ◌+◌, ◌-◌, ◌^◌, ◌<◌, ◌≤◌, ◌==◌, List, length, drop}
+use Rattle.std.specs.Prelude.{◌+◌, ◌-◌, ◌^◌, ◌<◌, ◌≤◌, ◌==◌, length, drop}
 use Rattle.std.specs.List.{position_or_len}
 use Rattle.event_file.specs.Reading.{Reading}
 use Rattle.event_file.specs.declared.reader.EventReader.TheInside.{Inside}

@@ -1,11 +1,10 @@
 -- What an event file says: the entries of its lines up to the first bad one.
-use Rattle.std.specs.Prelude.{◌≡◌, ℕ, ◌+◌, ◌<◌, ◌≤◌, List, [], ◌∷◌, ◌++◌, length, if◌then◌else◌, codes, Option, None, Some, IfSome, Result, Ok, Err}
+use Rattle.std.specs.Prelude.{ℕ, ◌+◌, ◌<◌, ◌≤◌, List, [], ◌∷◌, ◌++◌, length, if◌then◌else◌, codes, Option, None, Some, IfSome, Result, Ok, Err}
 use Rattle.std.specs.Str.{bytes_eq}
 use Rattle.event_file.specs.Lines.{lines_of, words_of, is_too_long, is_remark}
 use Rattle.event_file.specs.Puts.{put_of, longest_key, longest_value, ◌>>=◌}
 use Rattle.event_file.specs.declared.entry.Entry.{Entry}
 use Rattle.event_file.specs.declared.entry.Entry.TheVariants.{One}
-use Rattle.event_file.specs.declared.entry.Event.{Event}
 use Rattle.event_file.specs.declared.entry.Event.TheVariants.{Put}
 use Rattle.event_file.specs.declared.fault.LineFault.{LineFault}
 use Rattle.event_file.specs.declared.fault.LineFault.TheVariants.{Word}

@@ -8,6 +8,8 @@ mod laws;
 mod names;
 mod search;
 mod table;
+#[cfg(test)]
+mod tests;
 
 pub use error::LatticeError;
 pub use label::Label;

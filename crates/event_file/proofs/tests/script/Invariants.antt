@@ -1,4 +1,4 @@
-use Rattle.std.proofs.Common.{◌≡◌, length, None, false}
+use Rattle.std.proofs.Common.{◌≡◌, None, false}
 use Rattle.event_file.specs.Reading.{IsOneLine}
 use Rattle.event_file.proofs.tests.script.Given as goal
 

@@ -1,4 +1,4 @@
-use Rattle.std.proofs.Common.{◌≡◌, ◌≢◌, ℕ, ◌+◌, ◌<◌, ◌≤◌, List, length, take, drop, true, None, Some, Ok, sym, ap, ◌∙◌, subst, arith, length-drop}
+use Rattle.std.proofs.Common.{true, ap}
 use Rattle.event_file.specs.Reading.{Reading}
 use Rattle.event_file.proofs.Go.{completes_entry}
 use Rattle.event_file.proofs.Steps.{within_same}

@@ -1,8 +1,7 @@
-use Rattle.std.proofs.Common.{◌≡◌, ℕ, ◌+◌, ◌<◌, List, ◌∷◌, length, take, drop, sym, ap, ◌∙◌, subst, arith, length-drop}
+use Rattle.std.proofs.Common.{◌≡◌, ℕ, ◌+◌, ◌<◌, List, ◌∷◌, length, take, drop, sym, ap, subst, arith, length-drop}
 use Rattle.event_file.specs.Lines.{lines_of}
 use Rattle.event_file.specs.Reading.{Reading, IsOneLine}
 use Rattle.event_file.proofs.Split.{found_next, missing_next, first_part, whole}
-use Rattle.event_file.proofs.Go.{continues}
 use Rattle.event_file.proofs.reader.EventReader.line_end.Goals as goal
 
 pub invariant_of-self : goal.invariant_of-self

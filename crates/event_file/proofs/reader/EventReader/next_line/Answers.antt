@@ -1,6 +1,6 @@
-use Rattle.std.proofs.Common.{◌≡◌, ◌≢◌, ℕ, ◌+◌, ◌<◌, ◌≤◌, List, length, take, drop, None, Some, Ok, sym, ap, ◌∙◌, subst, arith, length-drop}
-use Rattle.event_file.specs.Reading.{Reading, IsOneLine, said_by}
-use Rattle.event_file.specs.Calls.{Advances, Continues, Skips}
+use Rattle.std.proofs.Common.{◌+◌, length, ap, ◌∙◌, arith, length-drop}
+use Rattle.event_file.specs.Reading.{Reading}
+use Rattle.event_file.specs.Calls.{Advances}
 use Rattle.event_file.specs.declared.next.Next.TheVariants as next
 use Rattle.event_file.specs.declared.fault.LineFault.TheVariants.{Word}
 use Rattle.event_file.proofs.Go.{continues, skips_with}

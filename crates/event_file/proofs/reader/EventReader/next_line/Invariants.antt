@@ -1,6 +1,5 @@
 use Rattle.std.proofs.Common.{◌≡◌, ◌≤◌, length, None}
 use Rattle.event_file.specs.Calls.{Skips}
-use Rattle.event_file.proofs.Steps.{skips_none}
 use Rattle.event_file.proofs.reader.EventReader.next_line.Given as goal
 
 abbrev pub invariant-lines : goal.invariant-lines

@@ -1,0 +1,40 @@
+-- What a file that gave too much says of the file held, and what follows from facts of options and results.
+use Rattle.std.proofs.Common.{◌≡◌, ℕ, refl, sym, ap, ◌∙◌, Some, None, IfSome, Result, Ok, Err, arith}
+use Rattle.std.specs.declared.option.Option.{Option}
+use Rattle.std.specs.Option.{option_map}
+use Rattle.trapeze_io.specs.Streams.{Held, Reading, GivesFront}
+use Rattle.std.specs.Io.{StartsWith}
+use Rattle.std.specs.Prelude.{IsSome, IsOkAnd, MatchOption, nat_lt, true, length, List, ◌<◌, ◌≤◌, []}
+use Rattle.std.proofs.lemmas.List.{length-take}
+use Rattle.std.proofs.lemmas.Bool.{lt-ltb}
+use Rattle.trapeze_cli.specs.declared.status.Status.TheVariants.{TooLong}
+use Rattle.trapeze_cli.specs.declared.status.Input.{Input}
+use Rattle.trapeze_cli.specs.Command.{file_of, within}
+
+-- what holds of a value that is told
+pub IfSome-map : {X : Type 0} {P Q : X → Type 0} (o : Option X) → ((x : X) → P x → Q x) → IfSome o P → IfSome o Q
+IfSome-map None k p = tt
+IfSome-map (Some x) k p = k x p
+
+longer : (bytes given : List ℕ) (limit : ℕ) → limit < length given → StartsWith bytes given → nat_lt limit (length bytes) ≡ true
+longer bytes given limit l starts =
+    let shorter : length given ≤ length bytes = omega (arith, sym (length-take (length given) bytes) ∙ ap length starts) in
+    let more : limit < length bytes = omega arith in
+    lt-ltb limit (length bytes) more
+
+of_file : (file : Option (List ℕ)) (given : List ℕ) (limit : ℕ) (input : Input) → limit < length given → MatchOption file (given ≡ []) (λ bytes. StartsWith bytes given)
+    → within limit input file ≡ Err (TooLong input)
+of_file None given limit input l e = absurd (omega (arith, ap length e))
+of_file (Some bytes) given limit input l starts = rw (longer bytes given limit l starts) refl
+
+-- a file that gave more bytes than its limit is one that is too long
+pub too_long : (held : Option Held) (name : List ℕ) (limit : ℕ) (input : Input) (now : Option Reading)
+    → (IsSome held → IsSome now) → IfSome now (λ r. limit < length r.given) → GivesFront held name now
+    → IfSome (option_map (λ h. file_of h name limit input) held) (λ e. e ≡ Err (TooLong input))
+too_long None name limit input now t l f = tt
+too_long (Some h) name limit input None t l f = absurd (cc (t refl))
+too_long (Some h) name limit input (Some r) t l f = of_file (h name) r.given limit input l f
+
+pub IsOkAnd-map : {T E : Type 0} {P Q : T → Type 0} (result : Result T E) → ((x : T) → P x → Q x) → IsOkAnd result P → IsOkAnd result Q
+IsOkAnd-map (Ok x) k p = k x p
+IsOkAnd-map (Err e) k p = absurd p
