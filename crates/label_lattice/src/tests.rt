@@ -115,32 +115,43 @@ fn there_are_1_to_64_labels(rt: HostRuntime) -> Result<(), Fail> {
     Ok(())
 }
 
+/// Two labels between a least and a greatest one.
+fn diamond(alloc: Global) -> Result<Result<Lattice, LatticeError>, Fail> {
+    let names = bytes_of(alloc, &["low", "alice", "bob", "top"])?;
+    let flows = [
+        ("low", "alice"),
+        ("low", "bob"),
+        ("alice", "top"),
+        ("bob", "top"),
+    ];
+    let flows = pairs_of(alloc, &flows)?;
+    Ok(Lattice::build(alloc, &names, &flows))
+}
+
 #[test]
-fn a_diamond_has_joins_names_and_flows(rt: HostRuntime) -> Result<(), Fail> {
-    let names = bytes_of(rt.alloc(), &["low", "alice", "bob", "top"])?;
-    let flows = pairs_of(
-        rt.alloc(),
-        &[
-            ("low", "alice"),
-            ("low", "bob"),
-            ("alice", "top"),
-            ("bob", "top"),
-        ],
-    )?;
-    let lattice = Lattice::build(rt.alloc(), &names, &flows).expect(&rt, "a lattice");
+fn labels_have_the_positions_of_their_names(rt: HostRuntime) -> Result<(), Fail> {
+    let lattice = diamond(rt.alloc())?.expect(&rt, "a lattice");
     assert_eq!(rt; lattice.count(), 4);
-    let low = lattice.find(b"low").expect(&rt, "low");
-    let alice = lattice.find(b"alice").expect(&rt, "alice");
-    let bob = lattice.find(b"bob").expect(&rt, "bob");
-    let top = lattice.find(b"top").expect(&rt, "top");
+    let bob = Label::numbered(2);
+    assert_eq!(rt; bob.number(), 2);
+    assert_eq!(rt; lattice.name(bob).as_bytes(), b"bob".as_slice());
+    assert_eq!(rt; lattice.find(b"bob"), Some(bob));
     assert_eq!(rt; lattice.find(b"carol"), None);
-    assert_eq!(rt; lattice.find(b"Low"), None);
-    assert!(rt; lattice.flows(low, top) && lattice.flows(bob, bob));
-    assert!(rt; !lattice.flows(alice, bob) && !lattice.flows(top, low));
+    assert_eq!(rt; lattice.find(b"Bob"), None);
+    Ok(())
+}
+
+#[test]
+fn labels_flow_and_join_upwards(rt: HostRuntime) -> Result<(), Fail> {
+    let lattice = diamond(rt.alloc())?.expect(&rt, "a lattice");
+    assert_eq!(rt; lattice.count(), 4);
+    let low = Label::numbered(0);
+    let alice = Label::numbered(1);
+    let bob = Label::numbered(2);
+    let top = Label::numbered(3);
+    assert!(rt; lattice.flows(low, top));
+    assert!(rt; !lattice.flows(alice, bob));
     assert_eq!(rt; lattice.join(alice, bob), top);
     assert_eq!(rt; lattice.join(low, bob), bob);
-    assert_eq!(rt; lattice.join(alice, alice), alice);
-    assert_eq!(rt; lattice.name(bob).as_bytes(), b"bob".as_slice());
-    assert_eq!(rt; bob.number(), 2);
     Ok(())
 }
