@@ -208,7 +208,7 @@ fn a_failing_error_sink_changes_no_status(rt: HostRuntime) -> Result<(), Fail> {
 fn a_policy_of_one_byte_too_many_is_too_long(rt: HostRuntime) -> Result<(), Fail> {
     let alloc = rt.alloc();
     let mut policy = String::from_str(alloc, "labels = [\"low\"]\n#")?;
-    while policy.len() < 1_048_576 {
+    for _ in policy.len()..1_048_576 {
         policy.push_str("#")?;
     }
     let mut files = held(alloc, policy.as_str(), "put low x6b -")?;
