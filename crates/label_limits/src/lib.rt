@@ -1,0 +1,8 @@
+//! The limits of a label: how much its activations may run, wait and keep.
+#![tactic(auto)]
+
+mod limits;
+#[cfg(test)]
+mod tests;
+
+pub use limits::{LimitError, Limits};
