@@ -1,0 +1,8 @@
+//! The table of channels: each has a name, a label and the function that its messages start.
+#![tactic(auto)]
+
+mod channels;
+#[cfg(test)]
+mod tests;
+
+pub use channels::{Channels, Delivery};
