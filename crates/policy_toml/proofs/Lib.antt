@@ -1,0 +1,5 @@
+pub mod ByLabel
+pub mod Replaced
+pub mod Rows
+pub mod Search
+pub mod Whole

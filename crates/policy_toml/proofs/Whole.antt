@@ -1,0 +1,62 @@
+-- The whole of a policy, from its parts.
+use Rattle.std.proofs.Common.{◌≡◌, ℕ, ◌≤◌, ◌<◌, ℤ, List, Ok, length, map, refl, sym, ◌∙◌, ap, subst}
+use Rattle.std.specs.Prelude.{All, IsTrue}
+use Rattle.std.proofs.lemmas.List.{length-map}
+use Rattle.std.proofs.lemmas.List.Elements.{All-map}
+use Rattle.toml.specs.Data.{Members}
+use Rattle.label_lattice.specs.Order.{Order, count}
+use Rattle.label_limits.specs.Ranges.{AreWithin}
+use Rattle.label_limits.specs.declared.limits.Limits.{Limits}
+use Rattle.labelled_channel.specs.declared.channels.Channel.{Channel}
+use Rattle.policy_toml.specs.Ascending.{Ascend}
+use Rattle.policy_toml.specs.Steps.{root_keys, labels_of, flows_of, lattice_of, limits_of, functions_of, channels_of, clients_of, is_file_name, IsFunction, IsClient, IsChannel}
+use Rattle.policy_toml.specs.Parts.{IsPolicy}
+use Rattle.policy_toml.specs.PolicyOf.{table_policy}
+
+-- what holds of the functions and the clients that were read
+pub record FunctionsRead (rows : List (List ℕ × List ℕ)) (names : List (List ℕ)) (files : List (List ℕ)) : Type 0 where
+  pub names_are : names ≡ map (λ row. row.0) rows
+  pub files_are : files ≡ map (λ row. row.1) rows
+  pub ascend : Ascend (map (λ row. row.0) rows)
+  pub each : All IsFunction rows
+  pub few : length rows ≤ 256
+
+pub record ClientsRead (labels : ℕ) (rows : List (List ℕ × ℕ)) (names : List (List ℕ)) (clearances : List ℕ) : Type 0 where
+  pub names_are : names ≡ map (λ row. row.0) rows
+  pub clearances_are : clearances ≡ map (λ row. row.1) rows
+  pub ascend : Ascend (map (λ row. row.0) rows)
+  pub each : All (IsClient labels) rows
+  pub few : length rows ≤ 65536
+
+pub is_policy : (order : Order) (limits : List Limits) (channels : List (List ℕ × Channel)) (functions files clients : List (List ℕ)) (clearances : List ℕ) (function_rows : List (List ℕ × List ℕ)) (client_rows : List (List ℕ × ℕ))
+    → length limits ≡ count order → All AreWithin limits → All (IsChannel (count order) (length functions)) channels
+    → FunctionsRead function_rows functions files → ClientsRead (count order) client_rows clients clearances
+    → IsPolicy (record { lattice = order; limits = limits; channels = channels; functions = functions; files = files; clients = clients; clearances = clearances })
+is_policy order limits channels functions files clients clearances function_rows client_rows one_row within below f c =
+    let functions_count : length functions ≡ length function_rows = ap length f.names_are ∙ length-map function_rows (λ row. row.0) in
+    let files_count : length files ≡ length function_rows = ap length f.files_are ∙ length-map function_rows (λ row. row.1) in
+    let clients_count : length clients ≡ length client_rows = ap length c.names_are ∙ length-map client_rows (λ row. row.0) in
+    let clearances_count : length clearances ≡ length client_rows = ap length c.clearances_are ∙ length-map client_rows (λ row. row.1) in
+    let few_functions : length functions ≤ 256 = rw functions_count f.few in
+    let few_clients : length clients ≤ 65536 = rw clients_count c.few in
+    record {
+      one_row_per_label = one_row;
+      limits = within;
+      channels = below;
+      functions = subst Ascend (sym f.names_are) f.ascend;
+      few_functions = few_functions;
+      one_file_per_function = files_count ∙ sym functions_count;
+      files = subst (λ (x : List (List ℕ)). All (λ file. IsTrue (is_file_name file)) x) (sym f.files_are) (All-map (λ file. IsTrue (is_file_name file)) (λ row. row.1) function_rows f.each);
+      clients = subst Ascend (sym c.names_are) c.ascend;
+      few_clients = few_clients;
+      one_clearance_per_client = clearances_count ∙ sym clients_count;
+      clearances = subst (λ (x : List ℕ). All (λ label. label < count order) x) (sym c.clearances_are) (All-map (λ label. label < count order) (λ row. row.1) client_rows c.each);
+    }
+
+-- every step gave a value, so the table is a policy
+pub accepted : (root : Members) (names : List (List ℕ)) (flows : List (List ℕ × List ℕ)) (limits : List (ℕ × List ℤ)) (functions : List (List ℕ × List ℕ)) (channels : List (List ℕ × Channel)) (clients : List (List ℕ × ℕ))
+    → root_keys root ≡ Ok tt → labels_of root ≡ Ok names → flows_of root ≡ Ok flows → lattice_of names flows ≡ Ok tt → limits_of names root ≡ Ok limits → functions_of root ≡ Ok functions
+    → channels_of names (map (λ f. f.0) functions) root ≡ Ok channels → clients_of names root ≡ Ok clients
+    → table_policy root ≡ Ok (record { names = names; flows = flows; limits = limits; functions = functions; channels = channels; clients = clients })
+unfolding table_policy
+accepted root names flows limits functions channels clients a b c d e f g h = rw (a, b, c, d, e, f, g, h) refl

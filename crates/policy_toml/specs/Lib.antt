@@ -1,0 +1,6 @@
+pub mod Places
+pub mod Rows
+pub mod Ascending
+pub mod Steps
+pub mod Parts
+pub mod PolicyOf

@@ -1,0 +1,32 @@
+-- What a policy holds, and what holds of it.
+use Rattle.std.specs.Prelude.{◌≡◌, ℕ, ◌<◌, ◌≤◌, List, All, IsTrue, length}
+use Rattle.label_lattice.specs.Order.{Order, count}
+use Rattle.label_limits.specs.Ranges.{AreWithin}
+use Rattle.label_limits.specs.declared.limits.Limits.{Limits}
+use Rattle.labelled_channel.specs.declared.channels.Channel.{Channel}
+use Rattle.policy_toml.specs.Ascending.{Ascend}
+use Rattle.policy_toml.specs.Steps.{is_file_name, IsChannel}
+
+-- the parts of a policy; functions and clients are numbered by position
+pub record Parts : Type 0 where
+  pub lattice : Order
+  pub limits : List Limits
+  pub channels : List (List ℕ × Channel)
+  pub functions : List (List ℕ)
+  pub files : List (List ℕ)
+  pub clients : List (List ℕ)
+  pub clearances : List ℕ
+
+-- a row of limits for each label, a file for each function, a clearance for each client; names in byte order; no number out of range
+pub record IsPolicy (parts : Parts) : Type 0 where
+  pub one_row_per_label : length parts.limits ≡ count parts.lattice
+  pub limits : All AreWithin parts.limits
+  pub channels : All (IsChannel (count parts.lattice) (length parts.functions)) parts.channels
+  pub functions : Ascend parts.functions
+  pub few_functions : length parts.functions ≤ 256
+  pub one_file_per_function : length parts.files ≡ length parts.functions
+  pub files : All (λ file. IsTrue (is_file_name file)) parts.files
+  pub clients : Ascend parts.clients
+  pub few_clients : length parts.clients ≤ 65536
+  pub one_clearance_per_client : length parts.clearances ≡ length parts.clients
+  pub clearances : All (λ label. label < count parts.lattice) parts.clearances

@@ -1,0 +1,86 @@
+-- Reading row by row: what the rows say, or the first fault among them.
+use Rattle.std.specs.Prelude.{◌≡◌, ◌≢◌, ℕ, ◌+◌, Bool, not, List, [], ◌∷◌, Option, Some, None, ok_or, Result, Ok, Err, codes, nat_eq}
+use Rattle.std.specs.List.{list_any, position_from}
+use Rattle.std.specs.Cmp.Lexicographic.{pointwise}
+use Rattle.toml.specs.Data.{Data, as_str, as_table, Items, no_items, item, Members, no_members, member, get_member}
+use Rattle.policy_toml.specs.declared.place.Part.{Part}
+use Rattle.policy_toml.specs.declared.place.Part.TheVariants as part
+use Rattle.policy_toml.specs.declared.place.Place.{Place}
+use Rattle.policy_toml.specs.declared.error.PolicyError.{PolicyError}
+use Rattle.policy_toml.specs.declared.error.PolicyError.TheVariants.{Extra, Missing, WrongKind, NoMemory}
+use Rattle.policy_toml.specs.Places.{row_of}
+
+-- what is read, or the first fault
+abbrev pub Reading : Type 0 → Type 0
+Reading X = Result X PolicyError
+
+-- one reading, and then the next one from what it gave; its fault comes first
+infixl 10 ◌>>=◌
+abbrev pub ◌>>=◌ : {X Y : Type 0} → Reading X → (X → Reading Y) → Reading Y
+Ok x >>= next = next x
+Err fault >>= next = Err fault
+
+-- a test that gives nothing but its fault
+abbrev pub unless : Option PolicyError → Reading (Unit {0})
+unless None = Ok tt
+unless (Some fault) = Err fault
+
+-- each row in order, by its number
+abbrev pub each_row : {X Y : Type 0} → (ℕ → X → Reading Y) → ℕ → List X → Reading (List Y)
+each_row read row [] = Ok []
+each_row read row (x ∷ others) = read row x >>= (λ y. each_row read (row + 1) others >>= (λ ys. Ok (y ∷ ys)))
+
+-- the members of an array, and of a table in byte order of their keys
+abbrev pub items_of : Items → List Data
+items_of no_items = []
+items_of (item d others) = d ∷ items_of others
+
+abbrev pub rows_of : Members → List (List ℕ × Data)
+rows_of no_members = []
+rows_of (member key d others) = (key, d) ∷ rows_of others
+
+-- the keys of a table
+abbrev pub keys_in : Members → List (List ℕ)
+keys_in no_members = []
+keys_in (member key d others) = key ∷ keys_in others
+
+-- nothing where a part is not written
+abbrev pub where_written : {X : Type 0} → Option Data → (Data → Reading (List X)) → Reading (List X)
+where_written None read = Ok []
+where_written (Some d) read = read d
+
+-- the keys of the root, and of the rows of a part
+abbrev pub keys_of : Part → List (List ℕ)
+keys_of part.Root = codes "labels" ∷ codes "flows" ∷ codes "limits" ∷ codes "functions" ∷ codes "channels" ∷ codes "clients" ∷ []
+keys_of part.Labels = []
+keys_of part.Flows = []
+keys_of part.Limits = codes "quantum" ∷ codes "fuel" ∷ codes "pages" ∷ codes "queue" ∷ codes "facets" ∷ codes "bytes" ∷ []
+keys_of part.Functions = []
+keys_of part.Channels = codes "label" ∷ codes "function" ∷ []
+keys_of part.Clients = codes "clearance" ∷ []
+
+abbrev pub is_key_of : Part → List ℕ → Bool
+is_key_of part key = list_any (pointwise nat_eq key) (keys_of part)
+
+-- the first key of a table that is none of the part's, by its place from 1
+abbrev pub extra_key : Part → Members → Option ℕ
+extra_key part table = position_from (λ row. not (is_key_of part row.0)) 1 (rows_of table)
+
+abbrev pub extra_in_row : Place → Option ℕ → Reading (Unit {0})
+extra_in_row place None = Ok tt
+extra_in_row place (Some _) = Err (Extra place)
+
+-- a row's table, which has no key but the part's
+abbrev pub row_table : Part → ℕ → Data → Reading Members
+row_table part row d =
+    ok_or (as_table d) (WrongKind (row_of part row)) >>= (λ table.
+    extra_in_row (row_of part row) (extra_key part table) >>= (λ _. Ok table))
+
+-- the text at a key that has to be there
+abbrev pub text_at : List ℕ → Place → Members → Reading (List ℕ)
+text_at key place table = ok_or (get_member key table) (Missing place) >>= (λ d. ok_or (as_str d) (WrongKind place))
+
+-- the answer is what the definition reads, want of memory aside
+abbrev pub Reads : {T X : Type 0} → (T → X) → Reading X → Result T PolicyError → Type 0
+Reads shown read (Ok x) = read ≡ Ok (shown x)
+Reads shown read (Err fault) = fault ≢ NoMemory → read ≡ Err fault

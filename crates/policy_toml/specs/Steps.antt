@@ -1,0 +1,186 @@
+-- The tests of a policy, in their order: a fault of an earlier one comes first.
+use Rattle.std.specs.Prelude.{◌≡◌, IsTrue, ℕ, ◌+◌, ◌-◌, ◌<◌, slice_set, Bool, ◌&&◌, nat_le, List, [], ◌∷◌, length, Option, Some, None, option_map, option_and_then, ok_or, Ok, Err, ℤ, codes, if◌then◌else◌}
+use Rattle.std.specs.List.{slice_index_or}
+use Rattle.std.specs.Str.{is_utf8}
+use Rattle.label_lattice.specs.declared.label.Label.{Label}
+use Rattle.toml.specs.Parse.{parse_document}
+use Rattle.toml.specs.Data.{Data, as_str, as_integer, as_array, as_table, Items, no_items, item, Members, get_member}
+use Rattle.trapeze_io.specs.Names.{is_name}
+use Rattle.label_lattice.specs.Order.{place_of}
+use Rattle.label_lattice.specs.Faults.{first_fault}
+use Rattle.label_limits.specs.Ranges.{ranges, is_within, first_outside, numbers_of, usual}
+use Rattle.labelled_channel.specs.declared.channels.Channel.{Channel}
+use Rattle.policy_toml.specs.declared.place.Part.{Part}
+use Rattle.policy_toml.specs.declared.place.Part.TheVariants as part
+use Rattle.policy_toml.specs.declared.place.Place.{Place}
+use Rattle.policy_toml.specs.declared.error.PolicyError.TheVariants.{Toml, Extra, Missing, WrongKind, Lattice, BadName, UnknownLabel, UnknownFunction, OutOfRange}
+use Rattle.policy_toml.specs.Places.{whole, row_of, field_of}
+use Rattle.policy_toml.specs.Rows.{Reading, ◌>>=◌, unless, each_row, items_of, rows_of, where_written, keys_of, extra_key, row_table, text_at}
+
+-- the bytes are a UTF-8 text that is a TOML document
+abbrev pub document_of : List ℕ → Reading Members
+document_of bytes = if is_utf8 bytes then ok_or (parse_document bytes) Toml else Err Toml
+
+-- the root has no key but a policy's
+unfoldable pub root_keys : Members → Reading (Unit {0})
+root_keys root = unless (option_map (λ row. Extra (row_of part.Root row)) (extra_key part.Root root))
+
+-- a label is a text
+abbrev pub label_row : ℕ → Data → Reading (List ℕ)
+label_row row d = ok_or (as_str d) (WrongKind (row_of part.Labels row))
+
+-- the labels are there, an array
+unfoldable pub labels_of : Members → Reading (List (List ℕ))
+labels_of root =
+    ok_or (get_member (codes "labels") root) (Missing (whole part.Labels)) >>= (λ d.
+    ok_or (as_array d) (WrongKind (whole part.Labels)) >>= (λ items.
+    each_row label_row 1 (items_of items)))
+
+-- an array of exactly two texts
+abbrev pub two_texts : Items → Option (List ℕ × List ℕ)
+two_texts (item from (item to no_items)) = option_and_then (λ a. option_map (λ b. (a, b)) (as_str to)) (as_str from)
+two_texts _ = None
+
+abbrev pub pair_of : Data → Option (List ℕ × List ℕ)
+pair_of d = option_and_then two_texts (as_array d)
+
+-- a flow is an array of two texts
+abbrev pub flow_row : ℕ → Data → Reading (List ℕ × List ℕ)
+flow_row row d = ok_or (pair_of d) (WrongKind (row_of part.Flows row))
+
+-- the flows, where they are written, are an array
+abbrev pub flows_in : Data → Reading (List (List ℕ × List ℕ))
+flows_in d = ok_or (as_array d) (WrongKind (whole part.Flows)) >>= (λ items. each_row flow_row 1 (items_of items))
+
+unfoldable pub flows_of : Members → Reading (List (List ℕ × List ℕ))
+flows_of root = where_written (get_member (codes "flows") root) flows_in
+
+-- the labels and flows are a lattice
+unfoldable pub lattice_of : List (List ℕ) → List (List ℕ × List ℕ) → Reading (Unit {0})
+lattice_of names pairs = unless (option_map Lattice (first_fault names pairs))
+
+-- the limits of a label of which none are written
+abbrev pub usual_numbers : List ℤ
+usual_numbers = numbers_of usual
+
+-- a limit that is written is a whole number within its range, and takes the place of the usual one
+abbrev pub limit : Place → Option Data → List ℤ → Reading (List ℤ)
+limit place None numbers = Ok numbers
+limit place (Some d) numbers =
+    ok_or (as_integer d) (WrongKind place) >>= (λ number.
+    if is_within (slice_index_or ranges (place.item - 1) (0, 0)) number then Ok (slice_set numbers (place.item - 1) number) else Err (OutOfRange place))
+
+-- the limits of a row in the order of their keys, of which the first is the field with this number
+abbrev pub limits_from : ℕ → List (List ℕ) → Members → ℕ → List ℤ → Reading (List ℤ)
+limits_from row [] table field numbers = Ok numbers
+limits_from row (key ∷ keys) table field numbers =
+    limit (field_of part.Limits row field) (get_member key table) numbers >>= limits_from row keys table (field + 1)
+
+-- the six limits of a row
+unfoldable pub row_limits : ℕ → Members → Reading (List ℤ)
+row_limits row table = limits_from row (keys_of part.Limits) table 1 usual_numbers
+
+-- a row of limits is of a label, and a table
+abbrev pub limits_row : List (List ℕ) → ℕ → List ℕ × Data → Reading (ℕ × List ℤ)
+limits_row names row entry =
+    ok_or (place_of entry.0 names) (UnknownLabel (row_of part.Limits row)) >>= (λ label.
+    row_table part.Limits row entry.1 >>= (λ table.
+    row_limits row table >>= (λ numbers. Ok (label, numbers))))
+
+-- the limits, where they are written, are a table
+abbrev pub limits_in : List (List ℕ) → Data → Reading (List (ℕ × List ℤ))
+limits_in names d =
+    ok_or (as_table d) (WrongKind (whole part.Limits)) >>= (λ table. each_row (limits_row names) 1 (rows_of table))
+
+unfoldable pub limits_of : List (List ℕ) → Members → Reading (List (ℕ × List ℤ))
+limits_of names root = where_written (get_member (codes "limits") root) (limits_in names)
+
+-- a row of limits is of a label below this count, and within the ranges
+pub record IsRowOf (labels : ℕ) (row : ℕ × List ℤ) : Type 0 where
+  pub label : row.0 < labels
+  pub limits : first_outside row.1 ≡ None
+
+-- a part has at most so many rows
+abbrev pub at_most : ℕ → Part → Members → Reading (Unit {0})
+at_most most part table = if nat_le (length (rows_of table)) most then Ok tt else Err (OutOfRange (whole part))
+
+-- a row's key is a name
+abbrev pub name_of : Part → ℕ → List ℕ → Reading (List ℕ)
+name_of part row key = if is_name key then Ok key else Err (BadName (row_of part row))
+
+-- a function has a name, and a file name of 1 to 255 bytes
+abbrev pub is_file_name : List ℕ → Bool
+is_file_name file = nat_le 1 (length file) && nat_le (length file) 255
+
+abbrev pub function_row : ℕ → List ℕ × Data → Reading (List ℕ × List ℕ)
+function_row row entry =
+    name_of part.Functions row entry.0 >>= (λ name.
+    ok_or (as_str entry.1) (WrongKind (row_of part.Functions row)) >>= (λ file.
+    if is_file_name file then Ok (name, file) else Err (OutOfRange (row_of part.Functions row))))
+
+-- the functions, where they are written, are a table of at most 256
+abbrev pub functions_in : Data → Reading (List (List ℕ × List ℕ))
+functions_in d =
+    ok_or (as_table d) (WrongKind (whole part.Functions)) >>= (λ table.
+    at_most 256 part.Functions table >>= (λ _. each_row function_row 1 (rows_of table)))
+
+unfoldable pub functions_of : Members → Reading (List (List ℕ × List ℕ))
+functions_of root = where_written (get_member (codes "functions") root) functions_in
+
+-- a field that is the name of a label, and one that is the name of a function: its number
+abbrev pub label_at : List (List ℕ) → List ℕ → Place → Members → Reading ℕ
+label_at names key place table =
+    text_at key place table >>= (λ name. ok_or (place_of name names) (UnknownLabel place))
+
+abbrev pub function_at : List (List ℕ) → List ℕ → Place → Members → Reading ℕ
+function_at functions key place table =
+    text_at key place table >>= (λ name. ok_or (place_of name functions) (UnknownFunction place))
+
+-- a channel has a name, a label and a function
+abbrev pub channel_row : List (List ℕ) → List (List ℕ) → ℕ → List ℕ × Data → Reading (List ℕ × Channel)
+channel_row names functions row entry =
+    name_of part.Channels row entry.0 >>= (λ name.
+    row_table part.Channels row entry.1 >>= (λ table.
+    label_at names (codes "label") (field_of part.Channels row 1) table >>= (λ label.
+    function_at functions (codes "function") (field_of part.Channels row 2) table >>= (λ function.
+    Ok (name, record { at = record { number = label }; function = function })))))
+
+-- the channels, where they are written, are a table
+abbrev pub channels_in : List (List ℕ) → List (List ℕ) → Data → Reading (List (List ℕ × Channel))
+channels_in names functions d =
+    ok_or (as_table d) (WrongKind (whole part.Channels)) >>= (λ table. each_row (channel_row names functions) 1 (rows_of table))
+
+unfoldable pub channels_of : List (List ℕ) → List (List ℕ) → Members → Reading (List (List ℕ × Channel))
+channels_of names functions root = where_written (get_member (codes "channels") root) (channels_in names functions)
+
+-- a client has a name and a clearance, which is a label
+abbrev pub client_row : List (List ℕ) → ℕ → List ℕ × Data → Reading (List ℕ × ℕ)
+client_row names row entry =
+    name_of part.Clients row entry.0 >>= (λ name.
+    row_table part.Clients row entry.1 >>= (λ table.
+    label_at names (codes "clearance") (field_of part.Clients row 1) table >>= (λ label. Ok (name, label))))
+
+-- the clients, where they are written, are a table of at most 65,536
+abbrev pub clients_in : List (List ℕ) → Data → Reading (List (List ℕ × ℕ))
+clients_in names d =
+    ok_or (as_table d) (WrongKind (whole part.Clients)) >>= (λ table.
+    at_most 65536 part.Clients table >>= (λ _. each_row (client_row names) 1 (rows_of table)))
+
+unfoldable pub clients_of : List (List ℕ) → Members → Reading (List (List ℕ × ℕ))
+clients_of names root = where_written (get_member (codes "clients") root) (clients_in names)
+
+-- a channel as it is read
+abbrev pub shown_channel : List ℕ × Label × ℕ → List ℕ × Channel
+shown_channel row = (row.0, record { at = row.1; function = row.2 })
+
+-- a function has a file name of 1 to 255 bytes
+abbrev pub IsFunction : List ℕ × List ℕ → Type 0
+IsFunction function = IsTrue (is_file_name function.1)
+
+-- a channel's label and function are below these counts
+abbrev pub IsChannel : ℕ → ℕ → List ℕ × Channel → Type 0
+IsChannel labels functions channel = (channel.1.at.number < labels) × (channel.1.function < functions)
+
+-- a client's clearance is below this count
+abbrev pub IsClient : ℕ → List ℕ × ℕ → Type 0
+IsClient labels client = client.1 < labels

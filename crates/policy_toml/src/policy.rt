@@ -1,0 +1,119 @@
+//! A policy.
+
+ghost use Rattle.std.specs.Prelude.{◌≡◌, ◌<◌, Some, length, map, slice_get, string_bytes};
+ghost use Rattle.label_lattice.specs.Order.{count};
+ghost use Rattle.policy_toml.specs.Parts.{IsPolicy};
+
+use label_lattice::{Label, Lattice};
+use label_limits::Limits;
+use labelled_channel::Channels;
+use std::marker::Model;
+use trapeze_io::Name;
+
+/// The labels of a host with their order and limits, its functions, channels and clients. Functions and clients are
+/// numbered from 0 in byte order of their names.
+#[derive(Drop)]
+pub struct Policy {
+    lattice: Lattice,
+    limits: Vec<Limits>,
+    channels: Channels,
+    functions: Vec<Name>,
+    files: Vec<String>,
+    clients: Vec<Name>,
+    clearances: Vec<Label>,
+}
+
+impl Model for Policy {
+    ghost use Rattle.std.specs.Prelude.{map, string_bytes};
+    ghost use Rattle.policy_toml.specs.Parts.{Parts, IsPolicy};
+
+    ghost Value = { Parts };
+
+    ghost view = { λ p. record { lattice = p.lattice; limits = p.limits.items; channels = p.channels; functions = p.functions.items; files = map (λ file. string_bytes file) p.files.items; clients = p.clients.items; clearances = map (λ label. label.number) p.clearances.items } };
+
+    ghost invariant = { λ p. IsPolicy (record { lattice = p.lattice; limits = p.limits.items; channels = p.channels; functions = p.functions.items; files = map (λ file. string_bytes file) p.files.items; clients = p.clients.items; clearances = map (λ label. label.number) p.clearances.items }) };
+}
+
+impl Policy {
+    /// The policy that has these parts: a row of limits for each label, the names of functions and of clients in byte
+    /// order, a file name of 1 to 255 bytes for each function, a clearance for each client, and no number past a count.
+    pub fn from_parts(
+        lattice: Lattice,
+        limits: Vec<Limits>,
+        channels: Channels,
+        functions: Vec<Name>,
+        files: Vec<String>,
+        clients: Vec<Name>,
+        clearances: Vec<Label>,
+    ) -> Policy
+        requires { IsPolicy (record { lattice = lattice; limits = limits.items; channels = channels; functions = functions.items; files = map (λ file. string_bytes file) files.items; clients = clients.items; clearances = map (λ label. label.number) clearances.items }) }
+        ensures { result ≡ record { lattice = lattice; limits = limits.items; channels = channels; functions = functions.items; files = map (λ file. string_bytes file) files.items; clients = clients.items; clearances = map (λ label. label.number) clearances.items } }
+    {
+        Policy {
+            lattice,
+            limits,
+            channels,
+            functions,
+            files,
+            clients,
+            clearances,
+        }
+    }
+
+    /// The labels and their order.
+    pub fn lattice(&self) -> &Lattice
+        ensures lattice { result.now ≡ self.now.lattice }
+        ensures policy { IsPolicy self.now }
+    {
+        &self.lattice
+    }
+
+    /// The limits of each label, by its number.
+    pub fn limits(&self) -> &[Limits]
+        ensures limits { result.now ≡ self.now.limits }
+        ensures policy { IsPolicy self.now }
+    {
+        self.limits.as_slice()
+    }
+
+    /// The channels.
+    pub fn channels(&self) -> &Channels
+        ensures channels { result.now ≡ self.now.channels }
+        ensures policy { IsPolicy self.now }
+    {
+        &self.channels
+    }
+
+    /// The names of the functions, by number.
+    pub fn functions(&self) -> &[Name]
+        ensures functions { result.now ≡ self.now.functions }
+        ensures policy { IsPolicy self.now }
+    {
+        self.functions.as_slice()
+    }
+
+    /// The file name of a function.
+    pub fn function_file(&self, f: u32) -> &str
+        requires { f < length self.now.functions }
+        ensures { slice_get self.now.files f ≡ Some result.now }
+    {
+        self.files[f as usize].as_str()
+    }
+
+    /// The names of the clients, by number.
+    pub fn clients(&self) -> &[Name]
+        ensures clients { result.now ≡ self.now.clients }
+        ensures policy { IsPolicy self.now }
+    {
+        self.clients.as_slice()
+    }
+
+    /// The clearance of a client: the label to which a reply has to flow so that the client gets it.
+    pub fn clearance(&self, client: u32) -> Label
+        requires { client < length self.now.clients }
+        ensures clearance { slice_get self.now.clearances client ≡ Some result.number }
+        ensures within { result.number < count self.now.lattice }
+    {
+        self.clearances[client as usize]
+    }
+}

@@ -1,0 +1,271 @@
+//! Faults that stand together: the first in the order of the steps is the answer.
+
+use super::{HEAD, Wrong, fault, fault_of, have_their_faults};
+use crate::{Part, Place, PolicyError, read_policy};
+use label_lattice::{Label, LatticeError};
+use std::test::Fail;
+
+/// A text with two faults, and the one that is answered.
+type Pair = (&'static str, Wrong, Part, u64, u32);
+
+static STEPS: [Pair; 14] = [
+    ("gate = 1", Wrong::Extra, Part::Root, 1, 0),
+    ("labels = 1\ngate = 1", Wrong::Extra, Part::Root, 1, 0),
+    ("flows = 1", Wrong::Missing, Part::Labels, 0, 0),
+    (
+        "labels = ['low', 1]\nflows = 1",
+        Wrong::Kind,
+        Part::Labels,
+        2,
+        0,
+    ),
+    ("labels = []\nflows = 1", Wrong::Kind, Part::Flows, 0, 0),
+    (
+        "labels = ['low', 'low']\nflows = [['low']]",
+        Wrong::Kind,
+        Part::Flows,
+        1,
+        0,
+    ),
+    (
+        "labels = ['low']\nflows = [['up', 'low'], 1]",
+        Wrong::Kind,
+        Part::Flows,
+        2,
+        0,
+    ),
+    (
+        "labels = ['low']\nlimits = 1\nfunctions = 1",
+        Wrong::Kind,
+        Part::Limits,
+        0,
+        0,
+    ),
+    (
+        "labels = ['low']\nfunctions = { Hello = 'a' }\n[limits.low]\nqueue = 0",
+        Wrong::OutOfRange,
+        Part::Limits,
+        1,
+        4,
+    ),
+    (
+        "labels = ['low']\nchannels = 1\nfunctions = 1",
+        Wrong::Kind,
+        Part::Functions,
+        0,
+        0,
+    ),
+    (
+        "labels = ['low']\nchannels = 1\nfunctions = { hello = '' }",
+        Wrong::OutOfRange,
+        Part::Functions,
+        1,
+        0,
+    ),
+    (
+        "labels = ['low']\nclients = 1\nchannels = 1",
+        Wrong::Kind,
+        Part::Channels,
+        0,
+        0,
+    ),
+    (
+        "labels = ['low']\n[clients.ann]\n[channels.mail]\nlabel = 'low'\nfunction = 'hello'",
+        Wrong::UnknownFunction,
+        Part::Channels,
+        1,
+        2,
+    ),
+    (
+        "labels = ['low']\nclients = 1\nlimits = 1",
+        Wrong::Kind,
+        Part::Limits,
+        0,
+        0,
+    ),
+];
+
+static LIMITS: [super::Case; 9] = [
+    ("limits = { mid = 1 }", Wrong::UnknownLabel, 1, 0),
+    ("limits = { low = 1, mid = {} }", Wrong::Kind, 1, 0),
+    (
+        "[limits.low]\nqueue = 0\n[limits.mid]",
+        Wrong::OutOfRange,
+        1,
+        4,
+    ),
+    ("[limits.low]\ngate = 1\nqueue = 0", Wrong::Extra, 1, 0),
+    (
+        "[limits.top]\ngate = 1\n[limits.low]\nbytes = -1",
+        Wrong::OutOfRange,
+        1,
+        6,
+    ),
+    (
+        "[limits.low]\nbytes = -1\nquantum = 0",
+        Wrong::OutOfRange,
+        1,
+        1,
+    ),
+    (
+        "[limits.low]\nbytes = 'many'\nfacets = -1\nqueue = 0\npages = -1\nfuel = 0",
+        Wrong::OutOfRange,
+        1,
+        2,
+    ),
+    ("[limits.low]\nqueue = 0\npages = 'few'", Wrong::Kind, 1, 3),
+    (
+        "[limits.low]\nfacets = 'few'\nqueue = 0",
+        Wrong::OutOfRange,
+        1,
+        4,
+    ),
+];
+
+static FUNCTIONS: [super::Case; 4] = [
+    ("functions = { Hello = 1 }", Wrong::BadName, 1, 0),
+    ("functions = { Hello = '' }", Wrong::BadName, 1, 0),
+    ("functions = { a = 1, 'b c' = 'e' }", Wrong::Kind, 1, 0),
+    ("functions = { a = '', b = 1 }", Wrong::OutOfRange, 1, 0),
+];
+
+static CHANNELS: [super::Case; 9] = [
+    ("channels = { Mail = 1 }", Wrong::BadName, 1, 0),
+    ("[channels.Mail]\ngate = 1", Wrong::BadName, 1, 0),
+    ("channels = { a = 1, 'b c' = 1 }", Wrong::Kind, 1, 0),
+    ("[channels.mail]\ngate = 1", Wrong::Extra, 1, 0),
+    (
+        "[channels.mail]\ngate = 1\nlabel = 'mid'\nfunction = 'help'",
+        Wrong::Extra,
+        1,
+        0,
+    ),
+    ("[channels.mail]", Wrong::Missing, 1, 1),
+    ("[channels.mail]\nlabel = 1", Wrong::Kind, 1, 1),
+    ("[channels.mail]\nlabel = 'mid'", Wrong::UnknownLabel, 1, 1),
+    (
+        "[channels.mail]\nlabel = 'mid'\nfunction = 'help'",
+        Wrong::UnknownLabel,
+        1,
+        1,
+    ),
+];
+
+static CLIENTS: [super::Case; 5] = [
+    ("clients = { Ann = 1 }", Wrong::BadName, 1, 0),
+    ("[clients.Ann]\ngate = 1", Wrong::BadName, 1, 0),
+    ("[clients.zed]\ngate = 1", Wrong::Extra, 1, 0),
+    (
+        "[clients.ann]\ngate = 1\nclearance = 'mid'",
+        Wrong::Extra,
+        1,
+        0,
+    ),
+    (
+        "[clients.carol]\nclearance = 'mid'\n[clients.ann]",
+        Wrong::Missing,
+        1,
+        1,
+    ),
+];
+
+#[test]
+fn a_text_that_is_no_document_comes_before_its_keys(rt: HostRuntime) {
+    let no_text = b"gate = 1 # \xff";
+    assert_eq!(rt;
+        read_policy(rt.alloc(), no_text).err(),
+        Some(PolicyError::Toml)
+    );
+    assert_eq!(rt;
+        fault_of(rt.alloc(), "gate = 1\nlabels ="),
+        Some(PolicyError::Toml)
+    );
+}
+
+#[test]
+fn the_steps_come_in_their_order(rt: HostRuntime) -> Result<(), Fail> {
+    for (text, wrong, part, row, item) in STEPS.iter() {
+        let place = Place {
+            part: *part,
+            row: *row,
+            item: *item,
+        };
+        assert_eq!(rt;
+            fault_of(rt.alloc(), text),
+            Some(fault(*wrong, place)),
+            "{text}"
+        );
+    }
+    Ok(())
+}
+
+#[test]
+fn the_lattice_comes_after_the_flows_and_before_the_limits(rt: HostRuntime) -> Result<(), Fail> {
+    let label = Label::numbered;
+    let cases = [
+        (
+            "labels = []\nflows = [['low', 'top']]",
+            LatticeError::NoLabels,
+        ),
+        ("labels = ['low', 'low', 'Top']", LatticeError::Repeated(1)),
+        ("labels = ['Top', 'low', 'low']", LatticeError::BadName(0)),
+        (
+            "labels = ['low', 'low']\nflows = [['up', 'low']]",
+            LatticeError::Repeated(1),
+        ),
+        (
+            "labels = ['a', 'b']\nflows = [['a', 'b'], ['b', 'a'], ['a', 'c']]",
+            LatticeError::UnknownLabel(2),
+        ),
+        (
+            "labels = ['a', 'b', 'c', 'd']\nflows = [['c', 'd'], ['d', 'c']]",
+            LatticeError::Cycle(label(2), label(3)),
+        ),
+        (
+            "labels = ['a', 'b', 't', 'x']\nflows = [['a', 't'], ['b', 't']]",
+            LatticeError::NoJoin(label(0), label(3)),
+        ),
+        (
+            "labels = ['low', 'low']\nlimits = 1",
+            LatticeError::Repeated(1),
+        ),
+        (
+            "labels = ['a', 'b']\nclients = 1",
+            LatticeError::NoJoin(label(0), label(1)),
+        ),
+    ];
+    for (text, want) in cases {
+        assert_eq!(rt;
+            fault_of(rt.alloc(), text),
+            Some(PolicyError::Lattice(want)),
+            "{text}"
+        );
+    }
+    Ok(())
+}
+
+#[test]
+fn faults_of_the_limits_come_by_row_and_then_by_field(rt: HostRuntime) -> Result<(), Fail> {
+    have_their_faults(&rt, rt.alloc(), HEAD, Part::Limits, &LIMITS)
+}
+
+#[test]
+fn a_function_with_a_bad_name_comes_before_its_file(rt: HostRuntime) -> Result<(), Fail> {
+    have_their_faults(
+        &rt,
+        rt.alloc(),
+        "labels = ['low']\n",
+        Part::Functions,
+        &FUNCTIONS,
+    )
+}
+
+#[test]
+fn faults_of_a_channel_come_in_their_order(rt: HostRuntime) -> Result<(), Fail> {
+    have_their_faults(&rt, rt.alloc(), HEAD, Part::Channels, &CHANNELS)
+}
+
+#[test]
+fn faults_of_a_client_come_in_their_order(rt: HostRuntime) -> Result<(), Fail> {
+    have_their_faults(&rt, rt.alloc(), HEAD, Part::Clients, &CLIENTS)
+}
