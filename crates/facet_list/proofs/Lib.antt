@@ -4,3 +4,6 @@ pub mod FacetLaws
 pub mod Walks
 pub mod Scans
 pub mod Sizes
+pub mod Tallies
+pub mod Writes
+pub mod Puts

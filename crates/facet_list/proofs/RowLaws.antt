@@ -96,6 +96,6 @@ read_more flows c key ws i x b lt is tells =
     ∙ read-push flows c key (take i ws) x
     ∙ ap (λ b. cond b x.value (read flows c key (take i ws))) (sym tells)
 
--- the rows of one more write of the list
-pub rows_more : (ws : List Write) (i : ℕ) (x : Write) → i < length ws → x ≡ get_or ws i x → rows_of (take (i + 1) ws) ≡ rows_after (rows_of (take i ws)) x
-rows_more ws i x lt is = ap rows_of (take_more ws i x lt) ∙ ap (λ y. rows_of (take i ws ++ y ∷ [])) (sym is) ∙ rows_of-push (take i ws) x
+-- the first writes and one more
+pub more : (ws : List Write) (i : ℕ) (x : Write) → i < length ws → x ≡ get_or ws i x → take (i + 1) ws ≡ take i ws ++ x ∷ []
+more ws i x lt is = take_more ws i x lt ∙ ap (λ y. take i ws ++ y ∷ []) (sym is)

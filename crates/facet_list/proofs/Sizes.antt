@@ -28,8 +28,8 @@ once_after : (l : ℕ) (v : Option (List ℕ)) (row : Row) → AllPairs Differ r
 once_after l v row h = all_pairs_push Differ (filter (λ (m : Member). not (m.0 == l)) row) (l, v) (AllPairs-filter Differ (λ (m : Member). not (m.0 == l)) row h)
     (λ k d lt. All-get_or (λ (m : Member). m.0 ≢ l) _ k d lt (others l row))
 
-pub store_after : (rows : Rows) (x : Write) → IsStore rows → IsSized x.key x.value → IsStore (rows_after rows x)
-store_after rows x h s = record {
+pub store_after : (n : ℕ) (rows : Rows) (x : Write) → IsStore n rows → IsSized x.key x.value → x.label < n → IsStore n (rows_after rows x)
+store_after n rows x h s lt = record {
   sized = λ key. subst (λ (row : Row). All (λ m. IsSized key m.1) row) (sym (row_of-after rows x key))
       (elim (pointwise nat_eq key x.key) as (λ t. pointwise nat_eq key x.key ≡ t → All (λ m. IsSized key m.1) (cond t (row_after x.label x.value (row_of rows x.key)) (row_of rows key))) [
         | true ↦ λ e. subst (λ (k : List ℕ). All (λ m. IsSized k m.1) (row_after x.label x.value (row_of rows x.key))) (sym ((bytes_decides key x.key).0 e))
@@ -41,21 +41,19 @@ store_after rows x h s = record {
         | true ↦ once_after x.label x.value (row_of rows x.key) (h.once x.key)
         | false ↦ h.once key
       ]);
+  below = λ key. subst (λ (row : Row). All (λ m. m.0 < n) row) (sym (row_of-after rows x key))
+      (elim (pointwise nat_eq key x.key) as (λ t. All (λ m. m.0 < n) (cond t (row_after x.label x.value (row_of rows x.key)) (row_of rows key))) [
+        | true ↦ All-push (λ (m : Member). m.0 < n) _ (x.label, x.value) (All-filter (λ (m : Member). not (m.0 == x.label)) (λ (m : Member). m.0 < n) (row_of rows x.key) (h.below x.key)) lt
+        | false ↦ h.below key
+      ]);
 }
 
-store_from : (rows : Rows) (w : List Write) → IsStore rows → All (λ x. IsSized x.key x.value) w → IsStore (rows_from rows w)
-store_from rows [] h s = h
-store_from rows (x ∷ w) h s = store_from (rows_after rows x) w (store_after rows x h (All-head (λ (x : Write). IsSized x.key x.value) x w s)) (All-tail (λ (x : Write). IsSized x.key x.value) x w s)
-
-pub store_empty : IsStore finite.empty
-store_empty = record {
+pub store_empty : (n : ℕ) → IsStore n finite.empty
+store_empty n = record {
   sized = λ key. subst (λ (row : Row). All (λ m. IsSized key m.1) row) (sym (ap (λ o. unwrap_or o []) (get-empty key_cmp key))) (All-nil (λ (m : Member). IsSized key m.1));
-  once = λ key. subst (λ (row : Row). AllPairs Differ row) (sym (ap (λ o. unwrap_or o []) (get-empty key_cmp key))) (λ i j d lt in'. omega arith);
+  once = λ key. subst (λ (row : Row). AllPairs Differ row) (sym (ap (λ o. unwrap_or o []) (get-empty key_cmp key))) (λ i j d lt within. omega arith);
+  below = λ key. subst (λ (row : Row). All (λ m. m.0 < n) row) (sym (ap (λ o. unwrap_or o []) (get-empty key_cmp key))) (All-nil (λ (m : Member). m.0 < n));
 }
-
--- the rows of writes within their sizes
-pub store_of : (w : List Write) → All (λ x. IsSized x.key x.value) w → IsStore (rows_of w)
-store_of w s = store_from finite.empty w store_empty s
 
 -- what holds of each member holds of the one at a label
 pub All-member : (P : Member → Type 0) (l : ℕ) (v : Option (List ℕ)) (row : Row) → member l row ≡ Some v → All P row → P (l, v)
@@ -68,8 +66,8 @@ All-member P l v (m ∷ row) e h =
     ] refl e
 
 -- a facet is within its sizes
-pub sized_at : (rows : Rows) (s : Slot) (v : Option (List ℕ)) → IsStore rows → facet_at rows s ≡ Some v → IsSized s.0 v
-sized_at rows s v h e = All-member (λ (m : Member). IsSized s.0 m.1) s.1 v (row_of rows s.0) e (h.sized s.0)
+pub sized_at : (n : ℕ) (rows : Rows) (s : Slot) (v : Option (List ℕ)) → IsStore n rows → facet_at rows s ≡ Some v → IsSized s.0 v
+sized_at n rows s v h e = All-member (λ (m : Member). IsSized s.0 m.1) s.1 v (row_of rows s.0) e (h.sized s.0)
 
 -- the label of a facet is below the number
 pub below_at : (n : ℕ) (rows : Rows) (s : Slot) (v : Option (List ℕ)) → AreBelow n rows → facet_at rows s ≡ Some v → s.1 < n
@@ -80,8 +78,8 @@ last_sized found [] f h = f
 last_sized found (v ∷ vs) f h = last_sized v vs (All-head IsValue v vs h) (All-tail IsValue v vs h)
 
 -- what is read is within its size
-pub read_sized : (flows : ℕ → ℕ → Bool) (c : ℕ) (rows : Rows) (key : List ℕ) → IsStore rows → IsValue (read_row flows c (row_of rows key))
-read_sized flows c rows key h = last_sized None _ (omega arith)
+pub read_sized : (flows : ℕ → ℕ → Bool) (c n : ℕ) (rows : Rows) (key : List ℕ) → IsStore n rows → IsValue (read_row flows c (row_of rows key))
+read_sized flows c n rows key h = last_sized None _ (omega arith)
     (All-map IsValue (λ (m : Member). m.1) _ (All-filter (λ (m : Member). flows m.0 c) (λ (m : Member). IsValue m.1) (row_of rows key)
     (All-weaker (λ (m : Member). IsSized key m.1) (λ (m : Member). IsValue m.1) (λ m s. s.value_fits) (row_of rows key) (h.sized key))))
 
@@ -112,6 +110,6 @@ pub below_of : (n : ℕ) (w : List Write) → AreBelow n (rows_of w) → All (λ
 below_of n w h = below_from n finite.empty w h
 
 -- a write that may be pushed
-pub store_push : (b : Bool) (w : List Write) (x : Write) → IsStore (rows_of w) → IsSized x.key x.value → IsStore (rows_of (cond b (w ++ x ∷ []) w))
-store_push true w x h s = subst IsStore (sym (rows_of-push w x)) (store_after (rows_of w) x h s)
-store_push false w x h s = h
+pub store_push : (n : ℕ) (b : Bool) (w : List Write) (x : Write) → IsStore n (rows_of w) → IsSized x.key x.value → x.label < n → IsStore n (rows_of (cond b (w ++ x ∷ []) w))
+store_push n true w x h s lt = subst (IsStore n) (sym (rows_of-push w x)) (store_after n (rows_of w) x h s lt)
+store_push n false w x h s lt = h

@@ -1,5 +1,5 @@
 -- A store as its callers see it: a row for each key.
-use Rattle.std.specs.Prelude.{◌≢◌, ◌<◌, ◌≤◌, ℕ, Bool, not, ◌==◌, List, [], ◌∷◌, ◌++◌, Option, Some, None, filter, map, length, unwrap_or, if◌then◌else◌, All}
+use Rattle.std.specs.Prelude.{◌≡◌, ◌≢◌, ◌<◌, ◌≤◌, ℕ, Bool, not, ◌==◌, List, [], ◌∷◌, ◌++◌, Option, Some, None, filter, map, length, unwrap_or, if◌then◌else◌, All}
 use Rattle.std.specs.List.{AllPairs}
 use Rattle.std.specs.declared.cmp.Ordering.{Ordering}
 use Rattle.std.specs.Ordering.{nat_cmp}
@@ -72,13 +72,20 @@ pub record IsSized (key : List ℕ) (value : Option (List ℕ)) : Type 0 where
   pub key_fits : IsKey key
   pub value_fits : IsValue value
 
--- what holds of the rows of each store
-pub record IsStore (rows : Rows) : Type 0 where
+-- the label of each facet is below the number
+abbrev pub AreBelow : ℕ → Rows → Type 0
+AreBelow n rows = (key : List ℕ) → All (λ m. m.0 < n) (row_of rows key)
+
+-- what holds of the rows of each store with n limits
+pub record IsStore (n : ℕ) (rows : Rows) : Type 0 where
   -- the facets of a key are within their sizes
   pub sized : (key : List ℕ) → All (λ m. IsSized key m.1) (row_of rows key)
   -- no two members of a row have one label
   pub once : (key : List ℕ) → AllPairs (λ m n. m.0 ≢ n.0) (row_of rows key)
+  -- each label has its limits
+  pub below : AreBelow n rows
 
--- the label of each facet is below the number
-abbrev pub AreBelow : ℕ → Rows → Type 0
-AreBelow n rows = (key : List ℕ) → All (λ m. m.0 < n) (row_of rows key)
+-- writes of which the rows are
+pub record AreWritten (rows : Rows) : Type 0 where
+  pub writes : List Write
+  pub written : rows ≡ rows_of writes

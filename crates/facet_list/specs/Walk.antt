@@ -4,7 +4,7 @@ use Rattle.std.specs.Borrow.{Bor}
 use Rattle.std.specs.declared.alloc.Global.{Global}
 use Rattle.std.specs.declared.cmp.Ordering.TheVariants.{Less}
 use Rattle.label_lattice.specs.declared.label.Label.{Label}
-use Rattle.facet_list.specs.Store.{Slot, slot_cmp}
+use Rattle.facet_list.specs.Store.{Slot, Facet, slot_cmp}
 use Rattle.facet_list.specs.Rows.{Rows, facet_at}
 
 -- the slot of a key that is lent and a label
@@ -28,3 +28,8 @@ pub record IsNext (rows : Rows) (after : Option Slot) (s : Slot) (v : Option (Li
   pub later : IsAfter after s
   pub here : facet_at rows s ≡ Some v
   pub least : (t : Slot) → IsAfter after t → slot_cmp t s ≡ Less → facet_at rows t ≡ None
+
+-- the least facet that is greater than the slot, or None where there is none
+abbrev pub IsLeast : Rows → Option Slot → Option Facet → Type 0
+IsLeast rows after None = NoneAfter rows after
+IsLeast rows after (Some f) = IsNext rows after f.0 f.1

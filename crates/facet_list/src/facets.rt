@@ -1,10 +1,12 @@
 //! What a store of facets is.
 
-ghost use Rattle.std.specs.Prelude.{◌≡◌, ◌<◌, Ok, OnOk, OnErr, MatchOption, IfSome};
+ghost use Rattle.std.specs.Prelude.{◌≡◌, ◌<◌, Ok, List, length, IfOk, OnErr, MatchOption, IfSome, if◌then◌else◌};
 ghost use Rattle.std.specs.Option.{option_copied};
 ghost use Rattle.label_lattice.specs.Order.{flows, count};
+ghost use Rattle.label_limits.specs.declared.limits.Limits.{Limits as LabelLimits};
 ghost use Rattle.facet_list.specs.Store.{Write};
-ghost use Rattle.facet_list.specs.Rows.{Rows, row_of, rows_after, read_row, IsKey, IsValue, IsSized, IsStore, AreBelow};
+ghost use Rattle.facet_list.specs.Rows.{Rows, row_of, rows_of, rows_after, read_row, IsKey, IsValue, IsSized, IsStore, AreWritten};
+ghost use Rattle.facet_list.specs.Room.{fits};
 ghost use Rattle.facet_list.specs.Walk.{slot_after, NoneAfter, IsNext};
 
 use label_lattice::{Label, Lattice};
@@ -25,20 +27,28 @@ pub trait Facets: Drop {
     /// The row of each key.
     ghost rows: { Self → Rows };
 
+    /// The limits of each label.
+    ghost limits: { Self → List LabelLimits };
+
     /// The value of the key's latest facet whose label flows to `at`: None where there is none or where it is absent.
     fn read(&self, lattice: &Lattice, at: Label, key: &[u8]) -> Option<&[u8]>
         requires at { at.number < count lattice.now }
-        requires labels { AreBelow (count lattice.now) (rows self.now) }
+        requires labels { count lattice.now ≡ length (limits self.now) }
         ensures value { option_copied result ≡ read_row (flows lattice.now) at.number (row_of (rows self.now) key.now) }
         ensures sized { IsValue (option_copied result) };
 
-    /// Writes the key at a label, None for absent.
+    /// Writes the key at a label, None for absent. `Full` exactly where the write does not fit: the live facets at the label after it
+    /// would number more than its `facets`, or their sizes sum to more than its `bytes`.
     fn write(&mut self, at: Label, key: &[u8], value: Option<&[u8]>) -> Result<Wrote, NoMemory>
+        requires at { at.number < length (limits self.old) }
         requires key { IsKey key.now }
         requires value { IsValue (option_copied value) }
-        ensures done { OnOk result (rows self.new ≡ rows_after (rows self.old) (record { label = at.number; key = key.now; value = option_copied value.entry })) }
-        ensures never_full { OnOk result (result ≡ Ok Wrote.Done) }
-        ensures no_memory { OnErr result (rows self.new ≡ rows self.old) };
+        ensures fits { (w : List Write) → rows self.old ≡ rows_of w →
+            IfOk result (λ wrote. wrote ≡ (if fits (limits self.old) w (record { label = at.number; key = key.now; value = option_copied value.entry }) then Wrote.Done else Wrote.Full)) }
+        ensures done { result ≡ Ok Wrote.Done → rows self.new ≡ rows_after (rows self.old) (record { label = at.number; key = key.now; value = option_copied value.entry }) }
+        ensures full { result ≡ Ok Wrote.Full → rows self.new ≡ rows self.old }
+        ensures no_memory { OnErr result (rows self.new ≡ rows self.old) }
+        ensures limits { limits self.new ≡ limits self.old };
 
     /// The least facet, by key in byte order and then by label, that is greater than `after`, or the least of all.
     fn next_facet(
@@ -47,8 +57,12 @@ pub trait Facets: Drop {
     ) -> Option<(&Vec<u8>, Label, Option<&[u8]>)>
         ensures next { MatchOption result (NoneAfter (rows self.now) (slot_after after.entry))
             (λ f. IsNext (rows self.now) (slot_after after.entry) (f.0.now.items, f.1.number) (option_copied f.2)) }
-        ensures sized { IfSome result (λ f. IsSized f.0.now.items (option_copied f.2)) };
+        ensures sized { IfSome result (λ f. IsSized f.0.now.items (option_copied f.2)) }
+        ensures label { IfSome result (λ f. f.1.number < length (limits self.now)) };
 
-    /// Keys and values are within their sizes, and a row has at most one facet of a label.
-    ghost store: { (s : Self) → IsStore (rows s) };
+    /// Keys and values are within their sizes, a row has at most one facet of a label, and each label has its limits.
+    ghost store: { (s : Self) → IsStore (length (limits s)) (rows s) };
+
+    /// The rows are those of some writes.
+    ghost made: { (s : Self) → AreWritten (rows s) };
 }

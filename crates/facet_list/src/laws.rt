@@ -4,6 +4,8 @@ ghost use Rattle.std.specs.Prelude.{◌≡◌, ℕ, Bool, List, T};
 ghost use Rattle.std.specs.FinMap.{find, is_sorted};
 ghost use Rattle.facet_list.specs.Store.{Write, Slot, Facet, slot_cmp, read, facets};
 ghost use Rattle.facet_list.specs.Rows.{row_of, rows_of, read_row, facet_at};
+ghost use Rattle.label_limits.specs.declared.limits.Limits.{Limits as LabelLimits};
+ghost use Rattle.facet_list.specs.Puts.{AreNoninterferingPuts};
 ghost use Rattle.facet_list.specs.Views.{AreNoninterfering, AreNoninterferingFrom};
 
 /// What the rows of writes tell a reader is what the writes tell him.
@@ -23,4 +25,9 @@ pub fn rows_tell_facets()
 pub fn noninterference_of_facets()
     ensures whole { AreNoninterfering }
     ensures from { AreNoninterferingFrom }
+{}
+
+/// What an observer sees of puts under limits is what the puts that he sees make.
+pub fn noninterference_of_puts()
+    ensures { (limits : List LabelLimits) (flows : ℕ → ℕ → Bool) (o : ℕ) (w puts : List Write) → AreNoninterferingPuts limits flows o w puts }
 {}

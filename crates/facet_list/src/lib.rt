@@ -5,10 +5,14 @@
 mod facets;
 mod laws;
 mod list;
+mod room;
+mod scan;
 #[cfg(test)]
 mod tests;
 mod write;
 
 pub use facets::{Facets, Wrote};
-pub use laws::{noninterference_of_facets, rows_tell_facets, rows_tell_reads};
+pub use laws::{
+    noninterference_of_facets, noninterference_of_puts, rows_tell_facets, rows_tell_reads,
+};
 pub use list::FacetList;

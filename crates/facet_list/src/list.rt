@@ -1,41 +1,53 @@
 //! The list of writes.
 
-ghost use Rattle.std.specs.Prelude.{◌≡◌, ◌≢◌, IsTrue, IfSome, MatchBool, MatchOption};
+ghost use Rattle.std.specs.Prelude.{◌≡◌, refl, length, IfOk};
 ghost use Rattle.std.specs.FinMap as finite;
-ghost use Rattle.std.specs.declared.cmp.Ordering.TheVariants.{Less};
-ghost use Rattle.facet_list.specs.Store.{slot_cmp};
 ghost use Rattle.facet_list.specs.Rows.{rows_of, IsStore};
 
 use crate::facets::{Facets, Wrote};
+use crate::room::fits;
+use crate::scan::next;
 use crate::write::Write;
 use label_lattice::{Label, Lattice};
+use label_limits::Limits;
 use std::alloc::Global;
 use trapeze_io::NoMemory;
 
-/// All writes, in order. A read and a walk go through the whole list; a write is appended.
+/// All writes, in order. A read and a walk go through the whole list, and a write goes through it once for each live facet of its
+/// label.
 #[derive(Drop)]
 pub struct FacetList {
     writes: Vec<Write>,
+    limits: Vec<Limits>,
     alloc: Global,
-    ghost sound: { IsStore (rows_of writes.items) },
+    ghost sound: { IsStore (length limits.items) (rows_of writes.items) },
 }
 
 impl FacetList {
-    /// A store without a write.
-    pub fn new(alloc: Global) -> FacetList
-        ensures { ⟦<FacetList as Facets>⟧.rows result ≡ finite.empty }
+    /// A store without a write, for these limits of its labels.
+    pub fn new(alloc: Global, limits: &[Limits]) -> Result<FacetList, NoMemory>
+        ensures rows { IfOk result (λ store. ⟦<FacetList as Facets>⟧.rows store ≡ finite.empty) }
+        ensures limits { IfOk result (λ store. ⟦<FacetList as Facets>⟧.limits store ≡ limits.now) }
     {
-        FacetList {
+        let Ok(limits) = Vec::from_slice(alloc, limits) else {
+            return Err(NoMemory);
+        };
+        Ok(FacetList {
             writes: Vec::new(alloc),
+            limits,
             alloc,
-        }
+        })
     }
 }
 
 impl Facets for FacetList {
     ghost rows = { λ s. rows_of s.writes.items };
 
+    ghost limits = { λ s. s.limits.items };
+
     ghost store = { λ s. s.sound };
+
+    ghost made = { λ s. record { writes = s.writes.items; written = refl } };
 
     fn read(&self, lattice: &Lattice, at: Label, key: &[u8]) -> Option<&[u8]> {
         let mut found = None;
@@ -48,6 +60,10 @@ impl Facets for FacetList {
     }
 
     fn write(&mut self, at: Label, key: &[u8], value: Option<&[u8]>) -> Result<Wrote, NoMemory> {
+        let limits = self.limits[at.number() as usize];
+        if !fits(&self.writes, limits, at, key, value) {
+            return Ok(Wrote::Full);
+        }
         let Ok(write) = Write::of(self.alloc, at, key, value) else {
             return Err(NoMemory);
         };
@@ -61,25 +77,9 @@ impl Facets for FacetList {
         &self,
         after: Option<(&Vec<u8>, Label)>,
     ) -> Option<(&Vec<u8>, Label, Option<&[u8]>)> {
-        let mut least: Option<&Write> = None;
-        'writes: for write in &self.writes {
-            if write.is_after(after) && is_no_greater(write, least) {
-                least = Some(write);
-            }
-        }
-        match least {
+        match next(&self.writes, None, after) {
             Some(write) => Some((write.key(), write.label(), write.value())),
             None => None,
         }
-    }
-}
-
-/// Whether the write's facet is that of the other or less, where there is another.
-fn is_no_greater(write: &Write, other: Option<&Write>) -> bool
-    ensures { MatchOption other.entry (IsTrue result) (λ b. MatchBool result (slot_cmp (b.now.key, b.now.label) (write.now.key, write.now.label) ≢ Less) (slot_cmp (b.now.key, b.now.label) (write.now.key, write.now.label) ≡ Less)) }
-{
-    match other {
-        Some(other) => write.is_no_greater(other),
-        None => true,
     }
 }

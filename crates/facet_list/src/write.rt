@@ -5,7 +5,9 @@ ghost use Rattle.std.specs.Option.{option_copied};
 ghost use Rattle.std.specs.Cmp.Lexicographic.{pointwise};
 ghost use Rattle.std.specs.declared.cmp.Ordering.TheVariants.{Less};
 ghost use Rattle.label_lattice.specs.Order.{flows, count};
+ghost use Rattle.std.specs.Ordering.{is_eq};
 ghost use Rattle.facet_list.specs.Store.{slot_cmp};
+ghost use Rattle.facet_list.specs.Room.{size};
 ghost use Rattle.facet_list.specs.Walk.{slot_after, IsAfter};
 
 use label_lattice::{Label, Lattice};
@@ -72,6 +74,20 @@ impl Write {
         }
     }
 
+    /// The size of the write's facet.
+    pub fn size(&self) -> u64
+        ensures { result ≡ size ((self.now.key, self.now.label), self.now.value) }
+    {
+        size_of(&self.key, self.value())
+    }
+
+    /// Whether the write is of the key at the label.
+    pub fn is_of(&self, at: Label, key: &[u8]) -> bool
+        ensures { result ≡ is_eq (slot_cmp (key.now, at.number) (self.now.key, self.now.label)) }
+    {
+        compare(key, at, &self.key, self.label) == Ordering::Equal
+    }
+
     /// Whether a read of the key at a label sees the write.
     pub fn is_seen(&self, lattice: &Lattice, at: Label, key: &[u8]) -> bool
         requires label { self.now.label < count lattice.now }
@@ -104,4 +120,15 @@ fn compare(a: &[u8], at: Label, b: &[u8], bt: Label) -> Ordering
     ensures { result ≡ slot_cmp (a.now, at.number) (b.now, bt.number) }
 {
     a.cmp(b).then(at.number().cmp(&bt.number()))
+}
+
+/// The size of a facet: the length of its key and that of its value, 0 if absent.
+pub fn size_of(key: &[u8], value: Option<&[u8]>) -> u64
+    ensures { result ≡ size ((key.now, 0), option_copied value.entry) }
+{
+    let value = match value {
+        Some(value) => value.len() as u64,
+        None => 0,
+    };
+    key.len() as u64 + value
 }

@@ -1,47 +1,55 @@
 -- From the steps of a call to the whole of it.
-use Rattle.std.proofs.Common.{◌≡◌, ℕ, List, [], map, sym, ap, subst, ◌∙◌, IfSome, Result, Ok}
-use Rattle.std.specs.Prelude.{IsOkAnd}
+use Rattle.std.proofs.Common.{◌≡◌, ℕ, Bool, List, [], ◌++◌, map, sym, ap, subst, ◌∙◌, Some, None}
 use Rattle.std.specs.declared.option.Option.{Option}
 use Rattle.std.specs.FinMap as finite
+use Rattle.std.proofs.lemmas.Grind.{flat_map-append}
 use Rattle.std.specs.Io.KnownBytes.{append_known}
-use Rattle.trapeze_io.specs.Streams.{Held}
+use Rattle.label_limits.specs.declared.limits.Limits.{Limits}
 use Rattle.facet_list.specs.Store.{Write, facets}
-use Rattle.facet_list.specs.Rows.{Rows, rows_of, rows_from}
-use Rattle.event_file.specs.Script.{entries_of}
+use Rattle.facet_list.specs.Rows.{Rows, rows_of}
 use Rattle.event_file.specs.declared.entry.Event.{Event}
+use Rattle.event_file.specs.declared.fault.LineError.{LineError}
 use Rattle.trapeze_cli.specs.declared.status.Status.{Status}
-use Rattle.trapeze_cli.specs.declared.status.Input.TheVariants.{Events as events_input}
-use Rattle.trapeze_cli.specs.Lines.{text}
-use Rattle.trapeze_cli.specs.Play.{start, whole, facet_line, write_of}
-use Rattle.trapeze_cli.specs.Command.{Scene, ◌>>=◌, file_of, events_limit, events_in, lines_of, flows_of, without_bad}
+use Rattle.trapeze_cli.specs.Lines.{text, line_text, visible}
+use Rattle.trapeze_cli.specs.Play.{start, play, trace, whole, final, facet_line, visible_events}
+use Rattle.trapeze_cli.specs.Steps.{ArePlayed, IsPlayed}
+use Rattle.trapeze_cli.specs.Command.{Scene, lines_until, lines_of, flows_of, limits_of, status_of}
 use Rattle.trapeze_cli.specs.Promises.{IsPrivate}
-use Rattle.trapeze_cli.proofs.Refusals.{IfSome-map, IsOkAnd-map}
-use Rattle.trapeze_cli.proofs.Noninterference.{whole_puts, noninterference}
+use Rattle.trapeze_cli.proofs.Noninterference.{noninterference}
 
--- the events of a file, read whole
-pub events_read : (held : Option Held) (name bytes : List ℕ) (labels : List (List ℕ)) → IfSome held (λ h. file_of h name events_limit events_input ≡ Ok bytes)
-    → IfSome held (λ h. events_in h name labels ≡ without_bad (entries_of labels [] [] bytes))
-events_read held name bytes labels k = IfSome-map held (λ h e. ap (λ r. r >>= (λ b. without_bad (entries_of labels [] [] b))) e) k
+-- from an empty store and nothing told, the lines of the events are told
+played_from_nothing : (names : List (List ℕ)) (limits kept : List Limits) (events : List Event) (empty now : Rows) (told told_now : List ℕ)
+    → kept ≡ limits → empty ≡ finite.empty → ArePlayed names kept events empty now told told_now → IsPlayed names limits events [] now told told_now
+played_from_nothing names limits kept events empty now told told_now same is played =
+    subst (λ (ls : List Limits). IsPlayed names ls events [] now told told_now) same (played [] is)
 
--- the text of the facets that the events leave is that of the lines of the whole
-told_whole : (labels : List (List ℕ)) (empty now : Rows) (told : List ℕ) (events : List Event) → empty ≡ finite.empty → now ≡ rows_from empty (map write_of events)
-    → ((w : List Write) → now ≡ rows_of w → told ≡ text labels (map facet_line (facets w))) → told ≡ text labels (whole (start []) events)
-told_whole labels empty now told events is made tell =
-    tell (map write_of events) (made ∙ ap (λ rows. rows_from rows (map write_of events)) is) ∙ ap (text labels) (sym (whole_puts [] events))
+pub told_trace : (names : List (List ℕ)) (limits kept : List Limits) (events : List Event) (empty now : Rows) (told told_now : List ℕ)
+    → kept ≡ limits → empty ≡ finite.empty → told ≡ [] → ArePlayed names kept events empty now told told_now
+    → told_now ≡ text names (trace limits (start []) events)
+told_trace names limits kept events empty now told told_now same is nothing played =
+    (played_from_nothing names limits kept events empty now told told_now same is played).lines ∙ ap (λ t. t ++ text names (trace limits (start []) events)) nothing
 
-pub events_told : (held : Option Held) (name bytes slice : List ℕ) (labels : List (List ℕ)) (empty now : Rows) (told : List ℕ)
-    → IfSome held (λ h. file_of h name events_limit events_input ≡ Ok bytes) → slice ≡ bytes → empty ≡ finite.empty
-    → IsOkAnd (without_bad (entries_of labels [] [] slice)) (λ events. now ≡ rows_from empty (map write_of events))
-    → ((w : List Write) → now ≡ rows_of w → told ≡ text labels (map facet_line (facets w)))
-    → IfSome held (λ h. IsOkAnd (events_in h name labels) (λ events. told ≡ text labels (whole (start []) events)))
-events_told held name bytes slice labels empty now told k same is made tell = IfSome-map held (λ h e.
-    subst (λ (r : Result (List Event) Status). IsOkAnd r (λ events. told ≡ text labels (whole (start []) events))) (ap (λ b. without_bad (entries_of labels [] [] b)) same ∙ sym e)
-    (IsOkAnd-map (without_bad (entries_of labels [] [] slice)) (λ events m. told_whole labels empty now told events is m tell) made)) (events_read held name bytes labels k)
+-- and then those of the facets
+pub told_whole : (names : List (List ℕ)) (limits kept : List Limits) (events : List Event) (empty now : Rows) (told told_now all : List ℕ)
+    → kept ≡ limits → empty ≡ finite.empty → told ≡ [] → ArePlayed names kept events empty now told told_now
+    → ((w : List Write) → now ≡ rows_of w → all ≡ told_now ++ text names (map facet_line (facets w)))
+    → all ≡ text names (whole limits (start []) events)
+told_whole names limits kept events empty now told told_now all same is nothing played tell =
+    tell (play limits (start []) events).store (played_from_nothing names limits kept events empty now told told_now same is played).store
+    ∙ ap (λ t. t ++ text names (final (play limits (start []) events))) (told_trace names limits kept events empty now told told_now same is nothing played)
+    ∙ sym (flat_map-append (line_text names) (trace limits (start []) events) (final (play limits (start []) events)))
+
+private_until : (bad : Option LineError) (limits : List Limits) (flows : ℕ → ℕ → Bool) (o : ℕ) (events : List Event)
+    → visible flows o (lines_until bad limits (start []) events) ≡ visible flows o (lines_until bad limits (start []) (visible_events flows o events))
+private_until None limits flows o events = (noninterference limits flows o [] events).of_whole
+private_until (Some bad) limits flows o events = (noninterference limits flows o [] events).of_trace
 
 -- what was written is the text of lines of which each label sees what the events that flow to it give
-pub private : (old new : Option (List ℕ)) (scene : Scene) (told : List ℕ) → told ≡ text scene.rules.names (lines_of scene) → new ≡ append_known old told → IsPrivate old new scene
-private old new scene told is wrote = record {
+pub private : (status : Status) (old new : Option (List ℕ)) (scene : Scene) (bad : Option LineError) (told : List ℕ)
+    → bad ≡ scene.bad → told ≡ text scene.policy.names (lines_of scene) → status ≡ status_of bad → new ≡ append_known old told → IsPrivate status old new scene
+private status old new scene bad told same is ended wrote = record {
+  ended = ended ∙ ap status_of same;
   lines = lines_of scene;
   written = wrote ∙ ap (append_known old) is;
-  private = λ o below. noninterference (flows_of scene.rules) o [] scene.events;
+  private = λ o. private_until scene.bad (limits_of scene.policy) (flows_of scene.policy) o scene.events;
 }

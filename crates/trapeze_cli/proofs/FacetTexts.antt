@@ -18,3 +18,9 @@ pub words_added : (told a b c d e f now facet name space key value end : List �
     → now ≡ told ++ ((((((facet ++ name) ++ space) ++ key) ++ space) ++ value) ++ end)
 words_added told a b c d e f now facet name space key value end one two three four five six seven =
     rw (seven, six, five, four, three, two, one) (simp append_assoc)
+
+-- the words of a shorter line, added one after the other
+pub few_words_added : (told a b c d now full name space key end : List ℕ) → a ≡ told ++ full → b ≡ a ++ name → c ≡ b ++ space
+    → d ≡ c ++ key → now ≡ d ++ end → now ≡ told ++ ((((full ++ name) ++ space) ++ key) ++ end)
+few_words_added told a b c d now full name space key end one two three four five =
+    rw (five, four, three, two, one) (simp append_assoc)

@@ -1,4 +1,3 @@
-pub mod Rows
 pub mod Pieces
 pub mod FacetTexts
 pub mod Noninterference
@@ -6,3 +5,4 @@ pub mod LineTexts
 pub mod Refusals
 pub mod Playing
 pub mod Calls
+pub mod Ends

@@ -11,7 +11,7 @@ use Rattle.trapeze_io.specs.Names.{is_name, goes_in_name, starts_name}
 use Rattle.label_lattice.specs.Sound.{AreNames}
 use Rattle.hex.specs.Hex.{encode_lower, encode_with, lower_digits, decode_of, IsBytes}
 use Rattle.hex.proofs.HexLemmas.{decode_of-encode_lower, decode_of-same}
-use Rattle.trapeze_cli.specs.Lines.{Line, Kind, Facet, IsLine, IsKind, AreBytes, line_text, kind_text, bytes_text, value_text}
+use Rattle.trapeze_cli.specs.Lines.{Line, Kind, Full, Facet, IsLine, IsKind, AreBytes, line_text, kind_text, bytes_text, value_text}
 
 -- the byte is no space
 abbrev IsNoSpace : ℕ → Type 0
@@ -98,8 +98,21 @@ words : (name key value : List ℕ) → (((((codes "facet " ++ name) ++ codes " 
     ≡ codes "facet " ++ (name ++ 32 ∷ (key ++ 32 ∷ (value ++ codes "\n")))
 words name key value = simp append_assoc
 
+full_words : (name key : List ℕ) → (((codes "full " ++ name) ++ codes " ") ++ key) ++ codes "\n" ≡ codes "full " ++ (name ++ 32 ∷ (key ++ codes "\n"))
+full_words name key = simp append_assoc
+
+-- the first words of a line of a write that did not fit and of a facet differ in their second byte
+differ : (xs ys : List ℕ) → 102 ∷ 117 ∷ xs ≢ 102 ∷ 97 ∷ ys
+differ xs ys e = let second : 117 ≡ 97 = ap (λ bytes. slice_index bytes 1) e in omega (arith, second)
+
 same_kind : (m n : List ℕ) (a b : Kind) → All IsNoSpace m → All IsNoSpace n → IsKind a → IsKind b
     → kind_text m a ++ codes "\n" ≡ kind_text n b ++ codes "\n" → (m ≡ n) × (a ≡ b)
+same_kind m n (Full k) (Full l) p q i j e =
+    let rest = append_cancel_left (codes "full ") _ _ (sym (full_words m (bytes_text k)) ∙ e ∙ full_words n (bytes_text l)) in
+    let labels = split_word m n _ _ p q rest in
+    (labels.0, ap Full (same_bytes k l i j (append_cancel_right (bytes_text k) (bytes_text l) (codes "\n") labels.1)))
+same_kind m n (Full k) (Facet l w) p q i j e = absurd (differ _ _ e)
+same_kind m n (Facet k v) (Full l) p q i j e = absurd (differ _ _ (sym e))
 same_kind m n (Facet k v) (Facet l w) p q i j e =
     let rest = append_cancel_left (codes "facet ") _ _ (sym (words m (bytes_text k) (value_text v)) ∙ e ∙ words n (bytes_text l) (value_text w)) in
     let labels = split_word m n _ _ p q rest in

@@ -1,46 +1,64 @@
 -- Entries that are read and played one after the other.
-use Rattle.std.proofs.Common.{◌≡◌, ℕ, ◌<◌, true, false, cond, List, [], ◌∷◌, ◌++◌, map, refl, sym, ap, subst, ◌∙◌, append_assoc, append-nil, Some, None, Ok, length, arith}
+use Rattle.std.proofs.Common.{◌≡◌, ℕ, Bool, true, false, cond, map, List, [], ◌∷◌, ◌++◌, refl, sym, ap, subst, ◌∙◌, append_assoc, append-nil, Some, None, Result, Ok, Err, length, arith}
 use Rattle.std.specs.declared.option.Option.{Option}
-use Rattle.std.specs.Prelude.{◌+◌, All, filter, not, ◌==◌, nat_eq, IsOkAnd}
-use Rattle.std.specs.Cmp.Lexicographic.{pointwise}
-use Rattle.std.specs.FinMap as finite
-use Rattle.std.specs.FinMap.{get-empty}
-use Rattle.std.specs.Prelude.{unwrap_or}
-use Rattle.std.proofs.lemmas.List.{map-append}
+use Rattle.std.specs.Prelude.{◌+◌, IfOk, OnOk, if◌then◌else◌}
 use Rattle.std.proofs.lemmas.Grind.{flat_map-append}
-use Rattle.std.proofs.lemmas.List.Elements.{All-nil, All-push, All-filter}
+use Rattle.trapeze_io.specs.declared.failures.NoMemory.{NoMemory}
+use Rattle.label_limits.specs.declared.limits.Limits.{Limits}
 use Rattle.facet_list.specs.Store.{Write}
-use Rattle.facet_list.specs.Rows.{Rows, Row, Member, key_cmp, row_of, row_after, rows_after, rows_from, AreBelow}
-use Rattle.facet_list.proofs.RowLaws.{row_of-after}
+use Rattle.facet_list.specs.Rows.{Rows, rows_of, rows_after}
+use Rattle.facet_list.specs.Room.{fits}
+use Rattle.facet_list.specs.declared.facets.Wrote.{Wrote}
+use Rattle.facet_list.specs.declared.facets.Wrote.TheVariants.{Done, Full}
+use Rattle.facet_list.proofs.RowLaws.{rows_of-push}
 use Rattle.event_file.specs.Script.{Entries, after, onto, line_of, IsWithin}
 use Rattle.event_file.specs.Reading.{Reading, entries_with}
 use Rattle.event_file.specs.Calls.{used_up}
+use Rattle.event_file.specs.declared.fault.LineError.{LineError}
 use Rattle.event_file.specs.declared.entry.Entry.{Entry}
 use Rattle.event_file.specs.declared.entry.Entry.TheVariants.{One}
+use Rattle.event_file.specs.declared.entry.Event.{Event}
 use Rattle.event_file.specs.declared.entry.Event.TheVariants.{Put}
-use Rattle.trapeze_cli.specs.Play.{entry_events, events_of, write_of}
-use Rattle.trapeze_cli.specs.Command.{without_bad}
-use Rattle.trapeze_cli.specs.Steps.{Plays, IsSizedEntry}
+use Rattle.trapeze_cli.specs.Lines.{text, line_text}
+use Rattle.trapeze_cli.specs.Play.{State, start, step, play, trace, entry_events, events_of, write_of, full_line}
+use Rattle.trapeze_cli.specs.Steps.{ArePlayed, IsPlayed, Plays, ending, left_after, IsFitEntry}
 
--- an entry that keeps to the limits is within the sizes of a store
-pub within_sized : (labels : List (List ℕ)) (entry : Entry) → IsWithin labels entry → IsSizedEntry entry
-within_sized labels (One (Put label key None)) w = (w.1, omega arith)
-within_sized labels (One (Put label key (Some bytes))) w = (w.1, w.2)
+-- an entry that keeps to the reader's limits fits a store with limits for each label
+pub within_fit : (labels : List (List ℕ)) (entry : Entry) → IsWithin labels entry → IsFitEntry (length labels) entry
+within_fit labels (One (Put label key None)) w = (w.0, w.1, omega arith)
+within_fit labels (One (Put label key (Some bytes))) w = (w.0, w.1, w.2)
 
-events_of-push : (entries : List Entry) (entry : Entry) → events_of (entries ++ entry ∷ []) ≡ events_of entries ++ entry_events entry
-events_of-push [] entry = append-nil (entry_events entry)
-events_of-push (e ∷ entries) entry = ap (λ es. entry_events e ++ es) (events_of-push entries entry) ∙ sym (append_assoc (entry_events e) (events_of entries) (entry_events entry))
+play-append : (limits : List Limits) (s : State) (first second : List Event) → play limits s (first ++ second) ≡ play limits (play limits s first) second
+play-append limits s [] second = refl
+play-append limits s (event ∷ first) second = play-append limits (step limits s event).state first second
 
-rows_from-append : (rows : Rows) (v w : List Write) → rows_from rows (v ++ w) ≡ rows_from (rows_from rows v) w
-rows_from-append rows [] w = refl
-rows_from-append rows (x ∷ v) w = rows_from-append (rows_after rows x) v w
+trace-append : (limits : List Limits) (s : State) (first second : List Event)
+    → trace limits s (first ++ second) ≡ trace limits s first ++ trace limits (play limits s first) second
+trace-append limits s [] second = refl
+trace-append limits s (event ∷ first) second =
+    ap (λ lines. (step limits s event).lines ++ lines) (trace-append limits (step limits s event).state first second)
+    ∙ sym (append_assoc (step limits s event).lines (trace limits (step limits s event).state first) (trace limits (play limits (step limits s event).state first) second))
 
-made_more : (rows : Rows) (entries : List Entry) (entry : Entry)
-    → rows_from rows (map write_of (events_of (entries ++ entry ∷ []))) ≡ rows_from (rows_from rows (map write_of (events_of entries))) (map write_of (entry_events entry))
-made_more rows entries entry =
-    ap (λ es. rows_from rows (map write_of es)) (events_of-push entries entry)
-    ∙ ap (rows_from rows) (map-append write_of (events_of entries) (entry_events entry))
-    ∙ rows_from-append rows (map write_of (events_of entries)) (map write_of (entry_events entry))
+-- nothing was played yet
+played_none : (names : List (List ℕ)) (limits : List Limits) (rows : Rows) (told : List ℕ) → ArePlayed names limits [] rows rows told told
+played_none names limits rows told = λ w is. record { store = is; lines = sym (append-nil told) }
+
+-- some events, and then some more
+played_both : (names : List (List ℕ)) (limits : List Limits) (first second : List Event) (before mid now : Rows) (told told_mid told_now : List ℕ)
+    → ArePlayed names limits first before mid told told_mid → ArePlayed names limits second mid now told_mid told_now
+    → ArePlayed names limits (first ++ second) before now told told_now
+played_both names limits first second before mid now told told_mid told_now p q = λ w is.
+    let a : IsPlayed names limits first w mid told told_mid = p w is in
+    let between : State = play limits (start w) first in
+    let b : IsPlayed names limits second between.store now told_mid told_now = q between.store a.store in
+    let one = text names (trace limits (start w) first) in
+    let two = text names (trace limits between second) in
+    let both : text names (trace limits (start w) (first ++ second)) ≡ one ++ two =
+    ap (text names) (trace-append limits (start w) first second) ∙ flat_map-append (line_text names) (trace limits (start w) first) (trace limits between second) in
+    record {
+      store = b.store ∙ ap (λ (s : State). rows_of s.store) (sym (play-append limits (start w) first second));
+      lines = b.lines ∙ ap (λ t. t ++ two) a.lines ∙ append_assoc told one two ∙ ap (λ t. told ++ t) (sym both);
+    }
 
 after-after : (first second : List Entry) (rest : Entries) → after first (after second rest) ≡ after (first ++ second) rest
 after-after first second rest = ap (λ es. the es) (sym (append_assoc first second rest.entries))
@@ -48,48 +66,37 @@ after-after first second rest = ap (λ es. the es) (sym (append_assoc first seco
     the : List Entry → Entries
     the es = record { entries = es; bad = rest.bad }
 
--- nothing was played yet
-pub Plays-none : (rows : Rows) (here : Entries) → Plays rows rows here here
-Plays-none rows here = record { entries = []; read = refl; made = refl }
-
--- one more entry was played
-pub Plays-more : (before mid now : Rows) (here there rest : Entries) (entry : Entry) → Plays before mid here there → there ≡ after (entry ∷ []) rest
-    → now ≡ rows_from mid (map write_of (entry_events entry)) → Plays before now here rest
-Plays-more before mid now here there rest entry so read made = record {
-  entries = so.entries ++ entry ∷ [];
-  read = so.read ∙ ap (after so.entries) read ∙ after-after so.entries (entry ∷ []) rest;
-  made = made ∙ ap (λ rows. rows_from rows (map write_of (entry_events entry))) so.made ∙ sym (made_more before so.entries entry);
-}
+-- no entry was played yet
+pub Plays-none : (names : List (List ℕ)) (limits : List Limits) (rows : Rows) (told : List ℕ) (here : Entries) → Plays names limits rows rows told told here here
+Plays-none names limits rows told here = record { entries = []; read = refl; played = played_none names limits rows told }
 
 -- some entries, and then some more
-pub Plays-both : (before mid now : Rows) (here there rest : Entries) → Plays before mid here there → Plays mid now there rest → Plays before now here rest
-Plays-both before mid now here there rest p q = record {
+pub Plays-both : (names : List (List ℕ)) (limits : List Limits) (before mid now : Rows) (told told_mid told_now : List ℕ) (here there rest : Entries)
+    → Plays names limits before mid told told_mid here there → Plays names limits mid now told_mid told_now there rest
+    → Plays names limits before now told told_now here rest
+Plays-both names limits before mid now told told_mid told_now here there rest p q = record {
   entries = p.entries ++ q.entries;
   read = p.read ∙ ap (after p.entries) q.read ∙ after-after p.entries q.entries rest;
-  made = q.made ∙ ap (λ rows. rows_from rows (map write_of (events_of q.entries))) p.made ∙ sym (both_made before p.entries q.entries);
+  played = subst (λ (events : List Event). ArePlayed names limits events before now told told_now) (sym (flat_map-append entry_events p.entries q.entries))
+      (played_both names limits (events_of p.entries) (events_of q.entries) before mid now told told_mid told_now p.played q.played);
 }
-  where
-    both_made : (rows : Rows) (v w : List Entry) → rows_from rows (map write_of (events_of (v ++ w))) ≡ rows_from (rows_from rows (map write_of (events_of v))) (map write_of (events_of w))
-    both_made rows v w = ap (λ es. rows_from rows (map write_of es)) (flat_map-append entry_events v w) ∙ ap (rows_from rows) (map-append write_of (events_of v) (events_of w)) ∙ rows_from-append rows (map write_of (events_of v)) (map write_of (events_of w))
 
-below_row : (n l : ℕ) (v : Option (List ℕ)) (row : Row) → l < n → All (λ (m : Member). m.0 < n) row → All (λ (m : Member). m.0 < n) (row_after l v row)
-below_row n l v row h all = All-push (λ (m : Member). m.0 < n) (filter (λ (m : Member). not (m.0 == l)) row) (l, v) (All-filter (λ (m : Member). not (m.0 == l)) (λ (m : Member). m.0 < n) row all) h
+-- one entry was played
+pub Plays-one : (names : List (List ℕ)) (limits : List Limits) (mid now : Rows) (told told_now : List ℕ) (there rest : Entries) (entry : Entry)
+    → there ≡ after (entry ∷ []) rest → ArePlayed names limits (entry_events entry) mid now told told_now → Plays names limits mid now told told_now there rest
+Plays-one names limits mid now told told_now there rest entry read played = record {
+  entries = entry ∷ [];
+  read = read;
+  played = subst (λ (events : List Event). ArePlayed names limits events mid now told told_now) (sym (append-nil (entry_events entry))) played;
+}
 
--- a write at a label below the number
-pub below_after : (n : ℕ) (rows : Rows) (x : Write) → AreBelow n rows → x.label < n → AreBelow n (rows_after rows x)
-below_after n rows x below h = λ key. subst (λ (row : Row). All (λ (m : Member). m.0 < n) row) (sym (row_of-after rows x key))
-    (elim (pointwise nat_eq key x.key) as (λ t. All (λ (m : Member). m.0 < n) (cond t (row_after x.label x.value (row_of rows x.key)) (row_of rows key))) [
-      | true ↦ below_row n x.label x.value (row_of rows x.key) h (below x.key)
-      | false ↦ below key
-    ])
-
--- an entry that keeps to the limits is at a label below the count
-pub below_entry : (labels : List (List ℕ)) (rows : Rows) (entry : Entry) → IsWithin labels entry → AreBelow (length labels) rows
-    → AreBelow (length labels) (rows_from rows (map write_of (entry_events entry)))
-below_entry labels rows (One (Put label key value)) w below = below_after (length labels) rows (write_of (Put label key value)) below w.0
-
-pub below_none : (n : ℕ) → AreBelow n finite.empty
-below_none n = λ key. subst (λ (row : Row). All (λ (m : Member). m.0 < n) row) (sym (ap (λ o. unwrap_or o []) (get-empty key_cmp key))) (All-nil (λ (m : Member). m.0 < n))
+-- one more entry was played
+pub Plays-more : (names : List (List ℕ)) (limits : List Limits) (before mid now : Rows) (told told_mid told_now : List ℕ) (here there rest : Entries) (entry : Entry)
+    → Plays names limits before mid told told_mid here there → there ≡ after (entry ∷ []) rest
+    → ArePlayed names limits (entry_events entry) mid now told_mid told_now → Plays names limits before now told told_now here rest
+Plays-more names limits before mid now told told_mid told_now here there rest entry so read played =
+    Plays-both names limits before mid now told told_mid told_now here there rest so
+    (Plays-one names limits mid now told_mid told_now there rest entry read played)
 
 said_nothing : (labels clients functions : List (List ℕ)) → line_of labels clients functions [] ≡ Ok None
 unfolding line_of
@@ -99,7 +106,46 @@ said_nothing labels clients functions = refl
 pub used_entries : (reading : Reading) → entries_with (used_up reading) [] ≡ record { entries = []; bad = None }
 used_entries reading = ap (λ said. onto ((used_up reading).lines + 1) said (record { entries = []; bad = None })) (said_nothing reading.labels reading.clients reading.functions)
 
--- all entries of a file without a bad line were played
-pub played_all : (before now : Rows) (all : Entries) → Plays before now all (record { entries = []; bad = None })
-    → IsOkAnd (without_bad all) (λ events. now ≡ rows_from before (map write_of events))
-played_all before now all so = rw (so.read, append-nil so.entries) so.made
+-- the whole lines and then the last one were played: all entries
+pub all_played : (names : List (List ℕ)) (limits limits_mid : List Limits) (before mid now : Rows) (told told_mid told_now : List ℕ) (all : Entries) (reading : Reading)
+    (found : Option LineError) (result : Result (Option LineError) NoMemory) → limits_mid ≡ limits → found ≡ None
+    → Plays names limits before mid told told_mid all (left_after found reading)
+    → IfOk result (λ bad. Plays names limits_mid mid now told_mid told_now (entries_with reading []) (ending bad))
+    → OnOk result (ArePlayed names limits (events_of all.entries) before now told told_now)
+all_played names limits limits_mid before mid now told told_mid told_now all reading found (Err e) same none p q = tt
+all_played names limits limits_mid before mid now told told_mid told_now all reading found (Ok bad) same none p q =
+    let first : Plays names limits before mid told told_mid all (entries_with reading []) = subst (λ (f : Option LineError). Plays names limits before mid told told_mid all (left_after f reading)) none p in
+    let second : Plays names limits mid now told_mid told_now (entries_with reading []) (ending bad) =
+    subst (λ (ls : List Limits). Plays names ls mid now told_mid told_now (entries_with reading []) (ending bad)) same q in
+    let both = Plays-both names limits before mid now told told_mid told_now all (entries_with reading []) (ending bad) first second in
+    rw (both.read, append-nil both.entries) both.played
+
+fits_done : (b : Bool) (wrote : Wrote) → wrote ≡ (if b then Done else Full) → wrote ≡ Done → b ≡ true
+fits_done true wrote e d = refl
+fits_done false wrote e d = cc
+
+-- a put whose write was made was played
+pub done_played : (names : List (List ℕ)) (limits : List Limits) (event : Event) (wrote : Wrote) (before now : Rows) (told : List ℕ)
+    → ((w : List Write) → before ≡ rows_of w → wrote ≡ (if fits limits w (write_of event) then Done else Full)) → wrote ≡ Done
+    → now ≡ rows_after before (write_of event) → ArePlayed names limits (event ∷ []) before now told told
+done_played names limits event wrote before now told fit done made = λ w is.
+    let yes : fits limits w (write_of event) ≡ true = fits_done (fits limits w (write_of event)) wrote (fit w is) done in
+    record {
+      store = made ∙ ap (λ rows. rows_after rows (write_of event)) is ∙ sym (rows_of-push w (write_of event)) ∙ ap (λ b. rows_of (cond b (w ++ write_of event ∷ []) w)) (sym yes);
+      lines = sym (append-nil told) ∙ ap (λ b. told ++ text names (map full_line (cond b [] (write_of event ∷ [])) ++ [])) (sym yes);
+    }
+
+fits_full : (b : Bool) (wrote : Wrote) → wrote ≡ (if b then Done else Full) → wrote ≡ Full → b ≡ false
+fits_full true wrote e d = cc
+fits_full false wrote e d = refl
+
+-- a put whose write was refused was played
+pub full_played : (names : List (List ℕ)) (limits : List Limits) (event : Event) (wrote : Wrote) (before now : Rows) (told told_now : List ℕ)
+    → ((w : List Write) → before ≡ rows_of w → wrote ≡ (if fits limits w (write_of event) then Done else Full)) → wrote ≡ Full
+    → now ≡ before → told_now ≡ told ++ line_text names (full_line (write_of event)) → ArePlayed names limits (event ∷ []) before now told told_now
+full_played names limits event wrote before now told told_now fit full same line = λ w is.
+    let not_so : fits limits w (write_of event) ≡ false = fits_full (fits limits w (write_of event)) wrote (fit w is) full in
+    record {
+      store = same ∙ is ∙ ap (λ b. rows_of (cond b (w ++ write_of event ∷ []) w)) (sym not_so);
+      lines = line ∙ ap (λ t. told ++ t) (sym (append-nil (line_text names (full_line (write_of event))))) ∙ ap (λ b. told ++ text names (map full_line (cond b [] (write_of event ∷ [])) ++ [])) (sym not_so);
+    }

@@ -4,6 +4,9 @@ use Rattle.std.specs.Cmp.Lexicographic.{pointwise}
 use Rattle.trapeze_io.specs.Streams.{Held}
 use Rattle.label_lattice.specs.Reach.{closes}
 use Rattle.label_lattice.specs.Faults.{numbered}
+use Rattle.label_limits.specs.declared.limits.Limits.{Limits}
+use Rattle.policy_toml.specs.Rows.{Reading}
+use Rattle.policy_toml.specs.PolicyOf.{Written, policy_of, limits_by_label}
 use Rattle.event_file.specs.Script.{Entries, entries_of}
 use Rattle.event_file.specs.declared.entry.Event.{Event}
 use Rattle.event_file.specs.declared.fault.LineError.{LineError}
@@ -11,10 +14,8 @@ use Rattle.trapeze_cli.specs.declared.status.Status.{Status}
 use Rattle.trapeze_cli.specs.declared.status.Status.TheVariants.{Done, Usage, Policy, Events, ReadFault, TooLong}
 use Rattle.trapeze_cli.specs.declared.status.Input.{Input}
 use Rattle.trapeze_cli.specs.declared.status.Input.TheVariants.{Policy as policy_input, Events as events_input}
-use Rattle.trapeze_cli.specs.declared.policy.PolicyError.TheVariants.{Toml, Refused}
-use Rattle.trapeze_cli.specs.PolicyOf.{PolicyAnswer, NoToml, Refused as Declined, Accepted, policy_of}
 use Rattle.trapeze_cli.specs.Lines.{Line, text}
-use Rattle.trapeze_cli.specs.Play.{start, whole, events_of}
+use Rattle.trapeze_cli.specs.Play.{State, start, trace, whole, events_of}
 
 -- a reading goes on with what was read, or ends with the first refusal
 infixl 10 ◌>>=◌
@@ -47,52 +48,53 @@ within limit input (Some bytes) = if nat_lt limit (length bytes) then Err (TooLo
 abbrev pub file_of : Held → List ℕ → ℕ → Input → Result (List ℕ) Status
 file_of held name limit input = within limit input (held name)
 
--- the names of a policy's labels, and its pairs of names
-pub record Rules : Type 0 where
-  pub names : List (List ℕ)
-  pub pairs : List (List ℕ × List ℕ)
+-- whether a label flows to another by the pairs of a policy
+abbrev pub flows_of : Written → ℕ → ℕ → Bool
+flows_of policy = closes (numbered policy.names policy.flows)
 
--- whether a label flows to another by the pairs of the policy
-abbrev pub flows_of : Rules → ℕ → ℕ → Bool
-flows_of rules = closes (numbered rules.names rules.pairs)
+-- the limits of each label of a policy
+abbrev pub limits_of : Written → List Limits
+limits_of policy = limits_by_label (length policy.names) policy.limits
 
-abbrev pub accepted : PolicyAnswer → Result Rules Status
-accepted NoToml = Err (Policy Toml)
-accepted Declined = Err (Policy Refused)
-accepted (Accepted names pairs) = Ok (record { names = names; pairs = pairs })
+abbrev pub accepted : Reading Written → Result Written Status
+accepted (Ok policy) = Ok policy
+accepted (Err fault) = Err (Policy fault)
 
 -- the policy of a file
-abbrev pub rules_in : Held → List ℕ → Result Rules Status
-rules_in held name = file_of held name policy_limit policy_input >>= (λ bytes. accepted (policy_of bytes))
+abbrev pub policy_in : Held → List ℕ → Result Written Status
+policy_in held name = file_of held name policy_limit policy_input >>= (λ bytes. accepted (policy_of bytes))
 
-abbrev pub without_bad : Entries → Result (List Event) Status
-without_bad read = good read.bad
-  where
-    good : Option LineError → Result (List Event) Status
-    good None = Ok (events_of read.entries)
-    good (Some bad) = Err (Events bad)
+-- the entries of a file whose lines may use these labels, up to its first bad line
+abbrev pub entries_in : Held → List ℕ → List (List ℕ) → Result Entries Status
+entries_in held name labels = file_of held name events_limit events_input >>= (λ bytes. Ok (entries_of labels [] [] bytes))
 
--- the events of a file whose lines may use these labels, if it has no bad line
-abbrev pub events_in : Held → List ℕ → List (List ℕ) → Result (List Event) Status
-events_in held name labels =
-    file_of held name events_limit events_input >>= (λ bytes. without_bad (entries_of labels [] [] bytes))
-
--- the policy and the events that a call plays
+-- the policy and the events that a call plays, and the bad line that ends them, if there is one
 pub record Scene : Type 0 where
-  pub rules : Rules
+  pub policy : Written
   pub events : List Event
+  pub bad : Option LineError
 
 -- the first refusal, in the order of the words, the policy and the event file, or what is played
 abbrev pub scene_of : List (List ℕ) → Held → Result Scene Status
 scene_of words held = do
   files ← known_form (files_of words)
-  rules ← rules_in held files.0
-  events ← events_in held files.1 rules.names
-  Ok (record { rules = rules; events = events })
+  policy ← policy_in held files.0
+  read ← entries_in held files.1 policy.names
+  Ok (record { policy = policy; events = events_of read.entries; bad = read.bad })
+
+-- the lines of events: with those of the facets where the file ends, and without where a bad line ends it
+abbrev pub lines_until : Option LineError → List Limits → State → List Event → List Line
+lines_until None = whole
+lines_until (Some bad) = trace
 
 -- the lines of a scene, from an empty store
 abbrev pub lines_of : Scene → List Line
-lines_of scene = whole (start []) scene.events
+lines_of scene = lines_until scene.bad (limits_of scene.policy) (start []) scene.events
+
+-- how a call ends that plays a file: at its end or at a bad line
+abbrev pub status_of : Option LineError → Status
+status_of None = Done
+status_of (Some bad) = Events bad
 
 -- a status, and the text that is written beside it
 pub record Answer : Type 0 where
@@ -100,7 +102,7 @@ pub record Answer : Type 0 where
   pub out : List ℕ
 
 abbrev pub answer_of : Result Scene Status → Answer
-answer_of (Ok scene) = record { status = Done; out = text scene.rules.names (lines_of scene) }
+answer_of (Ok scene) = record { status = status_of scene.bad; out = text scene.policy.names (lines_of scene) }
 answer_of (Err status) = record { status = status; out = [] }
 
 -- what a call answers where no file and no sink fails and there is memory

@@ -3,8 +3,9 @@ use Rattle.std.specs.Prelude.{ℕ, ◌<◌, Bool, List, [], ◌++◌, Option, So
 use Rattle.std.specs.List.{flat_map}
 use Rattle.hex.specs.Hex.{encode_lower}
 
--- what a line says: a live facet of the store as the events left it
+-- what a line says: a write that did not fit the limits of its label, or a live facet of the store as the events left it
 pub data Kind : Type 0 where
+  Full : (key : List ℕ) → Kind
   Facet : (key : List ℕ) (value : Option (List ℕ)) → Kind
 
 -- a line, with the label that says to whom it flows
@@ -17,6 +18,7 @@ abbrev pub AreBytes : List ℕ → Type 0
 AreBytes bytes = All (λ b. b < 256) bytes
 
 abbrev pub IsKind : Kind → Type 0
+IsKind (Full key) = AreBytes key
 IsKind (Facet key value) = AreBytes key × IfSome value AreBytes
 
 -- a line at one of these labels, with keys and values of bytes
@@ -39,6 +41,7 @@ value_text (Some bytes) = bytes_text bytes
 
 -- the words of a line of this label's name, separated by single spaces
 abbrev pub kind_text : List ℕ → Kind → List ℕ
+kind_text label (Full key) = codes "full " ++ label ++ codes " " ++ bytes_text key
 kind_text label (Facet key value) = codes "facet " ++ label ++ codes " " ++ bytes_text key ++ codes " " ++ value_text value
 
 -- a line's words and a line feed

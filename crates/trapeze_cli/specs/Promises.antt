@@ -1,26 +1,40 @@
 -- What the top call promises of its answers.
-use Rattle.std.specs.Prelude.{◌≡◌, ℕ, ◌+◌, ◌^◌, ◌<◌, ⊤, List, [], length, IfSome, IsOk, Option, Some}
+use Rattle.std.specs.Prelude.{◌≡◌, ◌≢◌, ℕ, ◌+◌, ◌^◌, ◌<◌, ⊤, List, [], IfSome, IsOk, Option, Some}
 use Rattle.std.specs.Io.KnownBytes.{append_known}
 use Rattle.trapeze_io.specs.Causes.{Rose}
 use Rattle.trapeze_io.specs.Streams.{Held, AppendsPart}
 use Rattle.trapeze_cli.specs.declared.status.Status.{Status}
 use Rattle.trapeze_cli.specs.declared.status.Status.TheVariants.{Done, Usage, Policy, Events, ReadFault, WriteFault, NoMemory, TooLong}
 use Rattle.trapeze_cli.specs.declared.status.Input.{Input}
+use Rattle.label_lattice.specs.declared.error.LatticeError.TheVariants.{NoMemory as lattice_no_memory}
+use Rattle.policy_toml.specs.declared.error.PolicyError.TheVariants.{Lattice, NoMemory as no_memory}
 use Rattle.trapeze_cli.specs.declared.status.Input.TheVariants.{Policy as policy_input, Events as events_input}
 use Rattle.trapeze_cli.specs.Lines.{Line, visible, text}
-use Rattle.trapeze_cli.specs.Play.{start, whole, visible_events}
+use Rattle.trapeze_cli.specs.Play.{start, visible_events}
 use Rattle.trapeze_cli.specs.Statuses.{file_name}
-use Rattle.trapeze_cli.specs.Command.{Scene, Answer, flows_of, known_form, files_of, rules_in, ◌>>=◌}
+use Rattle.trapeze_cli.specs.Command.{Scene, Answer, flows_of, limits_of, lines_until, status_of, known_form, files_of, policy_in, ◌>>=◌}
 
--- noninterference of a call: what was appended is the text of some lines of which, for each label o, those that flow to o
--- are exactly those that the rules give for the events that flow to o alone
-pub record IsPrivate (old new : Option (List ℕ)) (scene : Scene) : Type 0 where
+-- the statuses after which a text was written whole: the file was played to its end or to a bad line
+abbrev pub WasPlayed : Status → Type 0
+WasPlayed Done = ⊤
+WasPlayed (Events error) = ⊤
+WasPlayed Usage = ⊥
+WasPlayed (Policy fault) = ⊥
+WasPlayed (ReadFault input) = ⊥
+WasPlayed WriteFault = ⊥
+WasPlayed NoMemory = ⊥
+WasPlayed (TooLong input) = ⊥
+
+-- noninterference of a call: what was appended is the text of some lines of which, for each o, those that flow to o are exactly
+-- those that the rules give for the events that flow to o alone; a number that is no label's flows to itself alone
+pub record IsPrivate (status : Status) (old new : Option (List ℕ)) (scene : Scene) : Type 0 where
+  pub ended : status ≡ status_of scene.bad
   pub lines : List Line
-  pub written : new ≡ append_known old (text scene.rules.names lines)
-  pub private : (o : ℕ) → o < length scene.rules.names → visible (flows_of scene.rules) o lines
-      ≡ visible (flows_of scene.rules) o (whole (start []) (visible_events (flows_of scene.rules) o scene.events))
+  pub written : new ≡ append_known old (text scene.policy.names lines)
+  pub private : (o : ℕ) → visible (flows_of scene.policy) o lines
+      ≡ visible (flows_of scene.policy) o (lines_until scene.bad (limits_of scene.policy) (start []) (visible_events (flows_of scene.policy) o scene.events))
 
--- the statuses that the words and the files alone decide: done, or a refusal
+-- the statuses that the words and the files alone decide: played, or a refusal
 abbrev pub IsDecided : Status → Type 0
 IsDecided Done = ⊤
 IsDecided Usage = ⊤
@@ -31,6 +45,17 @@ IsDecided (ReadFault input) = ⊥
 IsDecided WriteFault = ⊥
 IsDecided NoMemory = ⊥
 
+-- want of memory is a status of its own, and no fault of a policy
+abbrev pub IsNoWant : Status → Type 0
+IsNoWant (Policy fault) = (fault ≢ no_memory) × (fault ≢ Lattice lattice_no_memory)
+IsNoWant Done = ⊤
+IsNoWant Usage = ⊤
+IsNoWant (Events error) = ⊤
+IsNoWant (ReadFault input) = ⊤
+IsNoWant WriteFault = ⊤
+IsNoWant NoMemory = ⊤
+IsNoWant (TooLong input) = ⊤
+
 -- the status and the whole text are those of the answer
 pub record Gives (answer : Answer) (status : Status) (old new : Option (List ℕ)) : Type 0 where
   pub decided : status ≡ answer.status
@@ -39,7 +64,7 @@ pub record Gives (answer : Answer) (status : Status) (old new : Option (List ℕ
 -- all was decided before the input that could not be read
 abbrev pub Reaches : List (List ℕ) → Held → Input → Type 0
 Reaches words held policy_input = IsOk (known_form (files_of words))
-Reaches words held events_input = IsOk (known_form (files_of words) >>= (λ files. rules_in held files.0))
+Reaches words held events_input = IsOk (known_form (files_of words) >>= (λ files. policy_in held files.0))
 
 -- how many opens the call has made once it reads an input
 abbrev pub opens_for : Input → ℕ
@@ -66,5 +91,5 @@ IfReadFault (TooLong input) P = ⊤
 
 -- a part of the text of a call that is not refused was written, and not all
 pub record IsWriteFault (answer : Answer) (old new : Option (List ℕ)) : Type 0 where
-  pub done : answer.status ≡ Done
+  pub played : WasPlayed answer.status
   pub part : AppendsPart old new answer.out

@@ -7,8 +7,14 @@ use Rattle.trapeze_cli.specs.declared.status.Status.{Status}
 use Rattle.trapeze_cli.specs.declared.status.Status.TheVariants.{Done, Usage, Policy, Events, ReadFault, WriteFault, NoMemory, TooLong}
 use Rattle.trapeze_cli.specs.declared.status.Input.{Input}
 use Rattle.trapeze_cli.specs.declared.status.Input.TheVariants.{Policy as policy_input, Events as events_input}
-use Rattle.trapeze_cli.specs.declared.policy.PolicyError.{PolicyError}
-use Rattle.trapeze_cli.specs.declared.policy.PolicyError.TheVariants.{Toml, Refused, NoMemory as no_memory}
+use Rattle.label_lattice.specs.declared.label.Label.{Label}
+use Rattle.label_lattice.specs.declared.error.LatticeError.{LatticeError}
+use Rattle.label_lattice.specs.declared.error.LatticeError.TheVariants as lattice
+use Rattle.policy_toml.specs.declared.place.Part.{Part}
+use Rattle.policy_toml.specs.declared.place.Part.TheVariants as part
+use Rattle.policy_toml.specs.declared.place.Place.{Place}
+use Rattle.policy_toml.specs.declared.error.PolicyError.{PolicyError}
+use Rattle.policy_toml.specs.declared.error.PolicyError.TheVariants as policy
 use Rattle.event_file.specs.declared.LineFault.{LineFault}
 use Rattle.event_file.specs.declared.LineFault.TheVariants.{Word}
 
@@ -23,11 +29,51 @@ code_of WriteFault = 6
 code_of NoMemory = 7
 code_of (TooLong input) = 8
 
+abbrev pub part_name : Part → List ℕ
+part_name part.Root = codes "root"
+part_name part.Labels = codes "labels"
+part_name part.Flows = codes "flows"
+part_name part.Limits = codes "limits"
+part_name part.Functions = codes "functions"
+part_name part.Channels = codes "channels"
+part_name part.Clients = codes "clients"
+
+-- a fault of a policy at its place: the part, the row and the item
+abbrev pub placed : List ℕ → Place → List ℕ
+placed kind place =
+    codes "policy: " ++ kind ++ codes " " ++ part_name place.part ++ codes " " ++ decimal place.row ++ codes " " ++ decimal place.item ++ codes "\n"
+
+-- a fault of a lattice at a position of its list, or of two labels
+abbrev pub numbered : List ℕ → ℕ → List ℕ
+numbered kind position = codes "policy: lattice " ++ kind ++ codes " " ++ decimal position ++ codes "\n"
+
+abbrev pub of_two : List ℕ → Label → Label → List ℕ
+of_two kind a b = codes "policy: lattice " ++ kind ++ codes " " ++ decimal a.number ++ codes " " ++ decimal b.number ++ codes "\n"
+
+-- the line of a lattice's fault
+abbrev pub lattice_text : LatticeError → List ℕ
+lattice_text lattice.NoLabels = codes "policy: lattice no-labels\n"
+lattice_text lattice.TooMany = codes "policy: lattice too-many\n"
+lattice_text (lattice.BadName position) = numbered (codes "bad-name") position
+lattice_text (lattice.Repeated position) = numbered (codes "repeated") position
+lattice_text (lattice.UnknownLabel position) = numbered (codes "unknown-label") position
+lattice_text (lattice.Cycle a b) = of_two (codes "cycle") a b
+lattice_text (lattice.NoJoin a b) = of_two (codes "no-join") a b
+lattice_text (lattice.NoMeet a b) = of_two (codes "no-meet") a b
+lattice_text lattice.NoMemory = codes "out of memory\n"
+
 -- the line of a policy's fault
 abbrev pub policy_text : PolicyError → List ℕ
-policy_text Toml = codes "policy: toml\n"
-policy_text Refused = codes "policy: refused\n"
-policy_text no_memory = codes "out of memory\n"
+policy_text policy.Toml = codes "policy: toml\n"
+policy_text (policy.Extra place) = placed (codes "extra") place
+policy_text (policy.Missing place) = placed (codes "missing") place
+policy_text (policy.WrongKind place) = placed (codes "wrong-kind") place
+policy_text (policy.Lattice fault) = lattice_text fault
+policy_text (policy.BadName place) = placed (codes "bad-name") place
+policy_text (policy.UnknownLabel place) = placed (codes "unknown-label") place
+policy_text (policy.UnknownFunction place) = placed (codes "unknown-function") place
+policy_text (policy.OutOfRange place) = placed (codes "out-of-range") place
+policy_text policy.NoMemory = codes "out of memory\n"
 
 -- the end of the line of a bad line of the event file, by its fault
 abbrev pub fault_text : LineFault → List ℕ

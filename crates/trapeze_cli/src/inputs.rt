@@ -2,13 +2,14 @@
 
 ghost use Rattle.std.specs.Prelude.{◌≡◌, ◌≤◌, length, IfOk, IfErr, IfSome, IsOkAnd, option_map};
 ghost use Rattle.trapeze_io.specs.Streams.{one_more_open};
-ghost use Rattle.label_lattice.specs.Faults.{Denotes};
-ghost use Rattle.trapeze_cli.specs.Command.{file_of, rules_in};
+ghost use Rattle.policy_toml.specs.PolicyOf.{IsAsWritten};
+ghost use Rattle.trapeze_cli.specs.Command.{file_of, policy_in};
+ghost use Rattle.trapeze_cli.specs.Promises.{IsNoWant};
 ghost use Rattle.trapeze_cli.specs.Steps.{Ends, IsFaultOf};
 
-use crate::policy::{PolicyError, read_policy};
 use crate::status::{Input, Status};
-use label_lattice::Lattice;
+use label_lattice::LatticeError;
+use policy_toml::{Policy, PolicyError, read_policy};
 use std::alloc::Global;
 use trapeze_io::{Bytes, Files, ReadError, read_whole};
 
@@ -34,6 +35,7 @@ pub(crate) fn read_input<F: Files>(
     ensures short { IfOk result (λ bytes. length bytes ≤ limit) }
     ensures err { IfErr result (λ status. Ends (option_map (λ held. file_of held name.now limit input) (F.held files.old))
         (IsFaultOf input (F.faults files.old) (F.faults files.new) (F.mark files.new)) status) }
+    ensures memory { IfErr result IsNoWant }
 {
     match read_whole(alloc, files, name, limit) {
         Ok(bytes) => Ok(bytes),
@@ -43,24 +45,27 @@ pub(crate) fn read_input<F: Files>(
     }
 }
 
-/// Reads the policy of this name.
+/// Reads the policy of the file of this name.
 pub(crate) fn read_rules<F: Files>(
     alloc: Global,
     files: &mut F,
     name: &str,
-) -> Result<Lattice, Status>
+) -> Result<Policy, Status>
     ensures files { F.held files.new ≡ F.held files.old }
     ensures number { F.opens files.new ≡ one_more_open (F.opens files.old) }
     ensures name { IfSome (F.last_name files.new) (λ last. last ≡ name.now) }
     ensures later { F.faults files.old ≤ F.faults files.new }
-    ensures ok { IfOk result (λ lattice. IfSome (F.held files.old) (λ held. IsOkAnd (rules_in held name.now) (λ rules. Denotes rules.names rules.pairs lattice))) }
-    ensures err { IfErr result (λ status. Ends (option_map (λ held. rules_in held name.now) (F.held files.old))
+    ensures ok { IfOk result (λ policy. IfSome (F.held files.old) (λ held. IsOkAnd (policy_in held name.now) (λ written. IsAsWritten written policy))) }
+    ensures err { IfErr result (λ status. Ends (option_map (λ held. policy_in held name.now) (F.held files.old))
         (IsFaultOf Input.Policy (F.faults files.old) (F.faults files.new) (F.mark files.new)) status) }
+    ensures memory { IfErr result IsNoWant }
 {
     let bytes = read_input(alloc, files, name, POLICY_LIMIT, Input::Policy)?;
     match read_policy(alloc, bytes.as_slice()) {
-        Ok(lattice) => Ok(lattice),
-        Err(PolicyError::NoMemory) => Err(Status::NoMemory),
+        Ok(policy) => Ok(policy),
+        Err(PolicyError::NoMemory | PolicyError::Lattice(LatticeError::NoMemory)) => {
+            Err(Status::NoMemory)
+        }
         Err(fault) => Err(Status::Policy(fault)),
     }
 }

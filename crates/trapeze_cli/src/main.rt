@@ -6,8 +6,8 @@ mod command;
 mod facets;
 mod inputs;
 mod laws;
+mod lines;
 mod play;
-mod policy;
 mod report;
 mod status;
 
@@ -41,5 +41,7 @@ fn out_of_memory<E: Sink>(err: &mut E) -> ExitCode {
     ExitCode::from(Status::NoMemory.code())
 }
 
+#[cfg(test)]
+mod report_tests;
 #[cfg(test)]
 mod tests;

@@ -1,99 +1,150 @@
 //! The events of a file, played on a store.
 
-ghost use Rattle.std.specs.Prelude.{◌≡◌, ◌<◌, ◌^◌, [], length, None, IfErr, OnOk, IsOkAnd, map};
-ghost use Rattle.facet_list.specs.Rows.{rows_after, rows_from, AreBelow};
+ghost use Rattle.std.specs.Prelude.{◌≡◌, ◌<◌, ◌^◌, [], ◌∷◌, length, None, Ok, IfOk, OnOk, List, if◌then◌else◌};
+ghost use Rattle.label_lattice.specs.Order.{count};
+ghost use Rattle.facet_list.specs.Store.{Write};
+ghost use Rattle.facet_list.specs.Rows.{rows_of, rows_after};
+ghost use Rattle.facet_list.specs.Room.{fits};
 ghost use Rattle.event_file.specs.Reading.{entries_with, IsOneLine};
 ghost use Rattle.event_file.specs.Script.{entries_of};
-ghost use Rattle.trapeze_cli.specs.Play.{entry_events, write_of};
-ghost use Rattle.trapeze_cli.specs.Command.{without_bad};
-ghost use Rattle.trapeze_cli.specs.Steps.{Plays, IsBad, IsSizedEntry, IsSizedEvent};
+ghost use Rattle.trapeze_cli.specs.Play.{entry_events, events_of, write_of};
+ghost use Rattle.trapeze_cli.specs.Steps.{ArePlayed, Plays, ending, left_after, IsFitEntry, IsFitEvent};
 
-use crate::status::Status;
-use event_file::{Entry, Event, EventReader, Next};
-use facet_list::Facets;
+use crate::lines::add_full;
+use event_file::{Entry, Event, EventReader, LineError, Next};
+use facet_list::{Facets, Wrote};
 use label_lattice::Lattice;
 use std::alloc::Global;
-use trapeze_io::NoMemory;
+use trapeze_io::{Bytes, NoMemory};
 
-/// Plays the events that the bytes of a file say.
+/// Plays the events that the bytes of a file say, up to its first bad line, if there is one, and adds the lines that they
+/// give.
 pub(crate) fn play_bytes<T: Facets>(
     alloc: Global,
     lattice: &Lattice,
     bytes: &[u8],
     store: &mut T,
-) -> Result<(), Status>
-    requires { length bytes.now < 2 ^ 62 }
-    ensures ok { OnOk result (IsOkAnd (without_bad (entries_of lattice.now.names [] [] bytes.now))
-        (λ events. T.rows store.new ≡ rows_from (T.rows store.old) (map write_of events))) }
-    ensures below { OnOk result (AreBelow (length lattice.now.names) (T.rows store.old) → AreBelow (length lattice.now.names) (T.rows store.new)) }
-    ensures err { IfErr result (IsBad (without_bad (entries_of lattice.now.names [] [] bytes.now))) }
+    told: &mut Bytes,
+) -> Result<Option<LineError>, NoMemory>
+    requires few { length bytes.now < 2 ^ 62 }
+    requires labels { length (T.limits store.old) ≡ count lattice.now }
+    ensures bad { IfOk result (λ bad. (entries_of lattice.now.names [] [] bytes.now).bad ≡ bad) }
+    ensures ok { OnOk result (ArePlayed lattice.now.names (T.limits store.old) (events_of (entries_of lattice.now.names [] [] bytes.now).entries)
+        (T.rows store.old) (T.rows store.new) told.old told.new) }
+    ensures limits { T.limits store.new ≡ T.limits store.old }
 {
     let mut reader = EventReader::new(alloc, lattice, &[], &[]);
-    let Ok(()) = reader.feed(bytes) else {
-        return Err(Status::NoMemory);
-    };
-    play_lines(&mut reader, store)?;
-    play_last(&mut reader, store)
+    reader.feed(bytes)?;
+    match play_lines(alloc, lattice, &mut reader, store, told)? {
+        Some(bad) => Ok(Some(bad)),
+        None => play_last(alloc, lattice, &mut reader, store, told),
+    }
 }
 
-/// Plays the entries of the whole lines.
-fn play_lines<T: Facets>(reader: &mut EventReader, store: &mut T) -> Result<(), Status>
-    requires { reader.old.bad ≡ None }
-    ensures ok { OnOk result (Plays (T.rows store.old) (T.rows store.new) (entries_with reader.old []) (entries_with reader.new [])) }
-    ensures below { OnOk result (AreBelow (length reader.old.labels) (T.rows store.old) → AreBelow (length reader.old.labels) (T.rows store.new)) }
-    ensures rest { OnOk result ((reader.new.bad ≡ None) × IsOneLine reader.new.kept) }
-    ensures labels { reader.new.labels ≡ reader.old.labels }
-    ensures err { IfErr result (IsBad (without_bad (entries_with reader.old []))) }
+/// Plays the entries of the whole lines, up to the first bad one.
+fn play_lines<T: Facets>(
+    alloc: Global,
+    lattice: &Lattice,
+    reader: &mut EventReader,
+    store: &mut T,
+    told: &mut Bytes,
+) -> Result<Option<LineError>, NoMemory>
+    requires good { reader.old.bad ≡ None }
+    requires names { reader.old.labels ≡ lattice.now.names }
+    requires labels { length (T.limits store.old) ≡ count lattice.now }
+    ensures ok { IfOk result (λ bad. Plays lattice.now.names (T.limits store.old) (T.rows store.old) (T.rows store.new) told.old told.new
+        (entries_with reader.old []) (left_after bad reader.new)) }
+    ensures rest { IfOk result (λ bad. bad ≡ None → (reader.new.bad ≡ None) × IsOneLine reader.new.kept) }
+    ensures names { reader.new.labels ≡ reader.old.labels }
+    ensures limits { T.limits store.new ≡ T.limits store.old }
 {
     'lines: loop {
         match reader.next_line() {
-            Next::Entry(entry) => play_entry(store, entry)?,
-            Next::Bad(bad) => return Err(Status::Events(bad)),
-            Next::NoLine => return Ok(()),
-            Next::NoMemory => return Err(Status::NoMemory),
+            Next::Entry(entry) => play_entry(alloc, lattice, entry, store, told)?,
+            Next::Bad(bad) => return Ok(Some(bad)),
+            Next::NoLine => return Ok(None),
+            Next::NoMemory => return Err(NoMemory),
         }
     }
 }
 
-/// Plays the last line, which has no end.
-fn play_last<T: Facets>(reader: &mut EventReader, store: &mut T) -> Result<(), Status>
-    requires bad { reader.old.bad ≡ None }
+/// Plays the last line, which has no end, unless it is bad.
+fn play_last<T: Facets>(
+    alloc: Global,
+    lattice: &Lattice,
+    reader: &mut EventReader,
+    store: &mut T,
+    told: &mut Bytes,
+) -> Result<Option<LineError>, NoMemory>
+    requires good { reader.old.bad ≡ None }
     requires rest { IsOneLine reader.old.kept }
-    ensures ok { OnOk result (Plays (T.rows store.old) (T.rows store.new) (entries_with reader.old []) (record { entries = []; bad = None })) }
-    ensures below { OnOk result (AreBelow (length reader.old.labels) (T.rows store.old) → AreBelow (length reader.old.labels) (T.rows store.new)) }
-    ensures err { IfErr result (IsBad (without_bad (entries_with reader.old []))) }
+    requires names { reader.old.labels ≡ lattice.now.names }
+    requires labels { length (T.limits store.old) ≡ count lattice.now }
+    ensures ok { IfOk result (λ bad. Plays lattice.now.names (T.limits store.old) (T.rows store.old) (T.rows store.new) told.old told.new
+        (entries_with reader.old []) (ending bad)) }
+    ensures limits { T.limits store.new ≡ T.limits store.old }
 {
     match reader.finish() {
-        Next::Entry(entry) => play_entry(store, entry),
-        Next::Bad(bad) => Err(Status::Events(bad)),
-        Next::NoLine => Ok(()),
-        Next::NoMemory => Err(Status::NoMemory),
+        Next::Entry(entry) => {
+            play_entry(alloc, lattice, entry, store, told)?;
+            Ok(None)
+        }
+        Next::Bad(bad) => Ok(Some(bad)),
+        Next::NoLine => Ok(None),
+        Next::NoMemory => Err(NoMemory),
     }
 }
 
 /// Plays the events of an entry.
-fn play_entry<T: Facets>(store: &mut T, entry: Entry) -> Result<(), Status>
-    requires { IsSizedEntry entry }
-    ensures ok { OnOk result (T.rows store.new ≡ rows_from (T.rows store.old) (map write_of (entry_events entry))) }
-    ensures err { IfErr result (λ status. status ≡ Status.NoMemory) }
+fn play_entry<T: Facets>(
+    alloc: Global,
+    lattice: &Lattice,
+    entry: Entry,
+    store: &mut T,
+    told: &mut Bytes,
+) -> Result<(), NoMemory>
+    requires entry { IsFitEntry (count lattice.now) entry }
+    requires labels { length (T.limits store.old) ≡ count lattice.now }
+    ensures ok { OnOk result (ArePlayed lattice.now.names (T.limits store.old) (entry_events entry) (T.rows store.old) (T.rows store.new) told.old told.new) }
+    ensures limits { T.limits store.new ≡ T.limits store.old }
 {
     let Entry::One(event) = entry;
-    match play_event(store, &event) {
-        Ok(()) => Ok(()),
-        Err(NoMemory) => Err(Status::NoMemory),
-    }
+    play_event(alloc, lattice, &event, store, told)
 }
 
 /// Plays one event.
-fn play_event<T: Facets>(store: &mut T, event: &Event) -> Result<(), NoMemory>
-    requires { IsSizedEvent event.now }
-    ensures { OnOk result (T.rows store.new ≡ rows_after (T.rows store.old) (write_of event.now)) }
+#[tactic(auto, using(crate::proofs::Playing::full_played))]
+fn play_event<T: Facets>(
+    alloc: Global,
+    lattice: &Lattice,
+    event: &Event,
+    store: &mut T,
+    told: &mut Bytes,
+) -> Result<(), NoMemory>
+    requires event { IsFitEvent (count lattice.now) event.now }
+    requires labels { length (T.limits store.old) ≡ count lattice.now }
+    ensures ok { OnOk result (ArePlayed lattice.now.names (T.limits store.old) (event.now ∷ []) (T.rows store.old) (T.rows store.new) told.old told.new) }
+    ensures limits { T.limits store.new ≡ T.limits store.old }
+{
+    let Event::Put { label, key, .. } = event;
+    match write_put(event, store)? {
+        Wrote::Done => Ok(()),
+        Wrote::Full => add_full(alloc, told, lattice, *label, key.as_slice()),
+    }
+}
+
+/// Asks the store for the write of a put.
+fn write_put<T: Facets>(event: &Event, store: &mut T) -> Result<Wrote, NoMemory>
+    requires { IsFitEvent (length (T.limits store.old)) event.now }
+    ensures fits { IfOk result (λ wrote. (w : List Write) → T.rows store.old ≡ rows_of w → wrote ≡ (if fits (T.limits store.old) w (write_of event.now) then Wrote.Done else Wrote.Full)) }
+    ensures done { result ≡ Ok Wrote.Done → T.rows store.new ≡ rows_after (T.rows store.old) (write_of event.now) }
+    ensures full { result ≡ Ok Wrote.Full → T.rows store.new ≡ T.rows store.old }
+    ensures limits { T.limits store.new ≡ T.limits store.old }
 {
     let Event::Put { label, key, value } = event;
     let value = match value {
         Some(value) => Some(value.as_slice()),
         None => None,
     };
-    store.write(*label, key.as_slice(), value)?;
-    Ok(())
+    store.write(*label, key.as_slice(), value)
 }

@@ -3,8 +3,8 @@
 ghost use Rattle.std.specs.Prelude.{◌≡◌};
 ghost use Rattle.trapeze_cli.specs.Statuses.{code_of};
 
-use crate::policy::PolicyError;
 use event_file::LineError;
+use policy_toml::PolicyError;
 
 /// A file that a call reads.
 #[derive(Debug, Clone, Copy, PartialEq, Eq, Drop)]
@@ -22,7 +22,7 @@ pub enum Status {
     Done,
     /// The words have no form that the program knows.
     Usage,
-    /// The policy is refused.
+    /// The policy is refused, with this first fault.
     Policy(PolicyError),
     /// The event file has this first bad line.
     Events(LineError),

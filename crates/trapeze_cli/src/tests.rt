@@ -7,6 +7,32 @@ const FOUR: &str = "labels = [\"low\", \"alice\", \"bob\", \"top\"]
 flows = [[\"low\", \"alice\"], [\"low\", \"bob\"], [\"alice\", \"top\"], [\"bob\", \"top\"]]
 ";
 
+/// Four labels, six functions, a channel and three clients.
+const WHOLE: &str = "labels = [\"low\", \"alice\", \"bob\", \"top\"]
+flows = [[\"low\", \"alice\"], [\"low\", \"bob\"], [\"alice\", \"top\"], [\"bob\", \"top\"]]
+
+[functions]
+hello = \"echo.wasm\"
+lift = \"lift.wasm\"
+look = \"look.wasm\"
+spin = \"spin.wasm\"
+store = \"store.wasm\"
+twin = \"twin.wasm\"
+
+[channels.mail]
+label = \"top\"
+function = \"hello\"
+
+[clients.ann]
+clearance = \"alice\"
+
+[clients.carol]
+clearance = \"low\"
+
+[clients.sam]
+clearance = \"top\"
+";
+
 const PUTS: &str = "put low x6b x01\nput alice x6b x02\nput low x61 -\n";
 
 const FACETS: &str = "facet low x61 -\nfacet low x6b x01\nfacet alice x6b x02\n";
@@ -61,6 +87,8 @@ fn events_under_a_policy_give_their_facets(rt: HostRuntime) -> Result<(), Fail> 
     let alloc = rt.alloc();
     for (policy, events, text) in [
         (FOUR, PUTS, FACETS),
+        (WHOLE, PUTS, FACETS),
+        (WHOLE, "", ""),
         (FOUR, "", ""),
         (FOUR, "# nothing\n\n", ""),
         (FOUR, "put low x6b x01", "facet low x6b x01\n"),
@@ -81,34 +109,123 @@ fn events_under_a_policy_give_their_facets(rt: HostRuntime) -> Result<(), Fail> 
     Ok(())
 }
 
+/// The whole policy with more lines at its end.
+fn whole_and(alloc: Global, more: &str) -> Result<String, Fail> {
+    let mut policy = String::from_str(alloc, WHOLE)?;
+    policy.push_str(more)?;
+    Ok(policy)
+}
+
 #[test]
-fn a_bad_file_is_refused_with_its_line_and_nothing_written(rt: HostRuntime) -> Result<(), Fail> {
+fn a_write_past_the_limits_of_its_label_is_full(rt: HostRuntime) -> Result<(), Fail> {
     let alloc = rt.alloc();
-    for (policy, events, code, error) in [
-        (FOUR, "turn low\n", 4, "events line 1: word\n"),
+    for (limits, events, text) in [
         (
-            FOUR,
+            "[limits.low]\nfacets = 1\n",
+            "put low x6b x01\nput low x6c x02\nput low x6b x03\n",
+            "full low x6c\nfacet low x6b x03\n",
+        ),
+        // Another label's limits, and another label's facets of the key, do not matter.
+        (
+            "[limits.alice]\nfacets = 0\n",
+            "put low x6b x01\nput alice x6b x02\nput low x6c -\n",
+            "full alice x6b\nfacet low x6b x01\nfacet low x6c -\n",
+        ),
+        // A key of one byte and values of two, one and three bytes: sizes three, two and four.
+        (
+            "[limits.low]\nbytes = 5\n",
+            "put low x6b x0102\nput low x6c x03\nput low x6b x010203\nput low x6b -\nput low x x0102030405\n",
+            "full low x6b\nfull low x\nfacet low x6b -\nfacet low x6c x03\n",
+        ),
+        (
+            "",
+            "put low x6b x01\nput low x6c x02\n",
+            "facet low x6b x01\nfacet low x6c x02\n",
+        ),
+    ] {
+        let policy = whole_and(alloc, limits)?;
+        let mut files = held(alloc, policy.as_str(), events)?;
+        assert!(rt; ends(alloc, &mut files, 0, text, "")?);
+    }
+    Ok(())
+}
+
+#[test]
+fn before_a_bad_line_the_events_are_played_without_their_facets(
+    rt: HostRuntime,
+) -> Result<(), Fail> {
+    let alloc = rt.alloc();
+    for (events, text, error) in [
+        ("turn low\n", "", "events line 1: word\n"),
+        (
             "put low x6b x01\n\n# a comment\nput lox x6b x01\n",
-            4,
+            "",
             "events line 4: word\n",
         ),
         (
-            "labels = [\"a\", \"b\"]\nflows = [[\"a\", \"b\"], [\"b\", \"a\"]]",
-            "",
-            2,
-            "policy: refused\n",
+            "put low x6b x01\nput low x6c x02\nturn low\nput low x6d x03\n",
+            "full low x6c\n",
+            "events line 3: word\n",
         ),
         (
-            "labels = [\"low\"]\n[functions]\nhello = \"echo.wasm\"\n",
-            "",
-            2,
-            "policy: refused\n",
+            "put low x6b x01\nput low x6c x02\nput bob x6b x01\nput low x6d",
+            "full low x6c\n",
+            "events line 4: word\n",
         ),
-        ("labels = ", "", 2, "policy: toml\n"),
     ] {
-        let mut files = held(alloc, policy, events)?;
-        assert!(rt; ends(alloc, &mut files, code, "", error)?);
+        let policy = whole_and(alloc, "[limits.low]\nfacets = 1\n")?;
+        let mut files = held(alloc, policy.as_str(), events)?;
+        assert!(rt; ends(alloc, &mut files, 4, text, error)?);
     }
+    Ok(())
+}
+
+#[test]
+fn a_policy_with_a_fault_is_refused_with_its_place(rt: HostRuntime) -> Result<(), Fail> {
+    let alloc = rt.alloc();
+    for (policy, error) in [
+        ("labels = ", "policy: toml\n"),
+        ("flows = []", "policy: missing labels 0 0\n"),
+        ("labels = []", "policy: lattice no-labels\n"),
+        ("labels = [\"low\"]\ngate = 1\n", "policy: extra root 1 0\n"),
+        (
+            "labels = [\"a\", \"b\"]\nflows = [[\"a\", \"b\"], [\"b\", \"a\"]]",
+            "policy: lattice cycle 0 1\n",
+        ),
+        (
+            "labels = [\"z\", \"a\", \"b\", \"c\", \"d\", \"t\"]
+flows = [[\"z\", \"a\"], [\"z\", \"b\"], [\"a\", \"c\"], [\"a\", \"d\"], [\"b\", \"c\"], [\"b\", \"d\"], [\"c\", \"t\"], [\"d\", \"t\"]]",
+            "policy: lattice no-join 1 2\n",
+        ),
+        (
+            "labels = [\"a\", \"b\", \"t\"]\nflows = [[\"a\", \"t\"], [\"b\", \"t\"]]",
+            "policy: lattice no-meet 0 1\n",
+        ),
+    ] {
+        let mut files = held(alloc, policy, PUTS)?;
+        assert!(rt; ends(alloc, &mut files, 2, "", error)?);
+    }
+    for (more, error) in [
+        (
+            "[limits.low]\nqueue = 0\n",
+            "policy: out-of-range limits 1 4\n",
+        ),
+        ("[clients.zed]\n", "policy: missing clients 4 1\n"),
+    ] {
+        let policy = whole_and(alloc, more)?;
+        let mut files = held(alloc, policy.as_str(), PUTS)?;
+        assert!(rt; ends(alloc, &mut files, 2, "", error)?);
+    }
+    Ok(())
+}
+
+#[test]
+fn an_extra_root_key_is_counted_among_all_root_keys(rt: HostRuntime) -> Result<(), Fail> {
+    let alloc = rt.alloc();
+    let mut policy = String::from_str(alloc, FOUR)?;
+    policy.push_str("gate = 1\n")?;
+    let mut files = held(alloc, policy.as_str(), PUTS)?;
+    assert!(rt; ends(alloc, &mut files, 2, "", "policy: extra root 2 0\n")?);
     Ok(())
 }
 

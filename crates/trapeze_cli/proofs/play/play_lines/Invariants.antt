@@ -1,6 +1,5 @@
 use Rattle.std.proofs.Common.{◌≡◌, [], length, None}
 use Rattle.event_file.specs.Reading.{entries_with}
-use Rattle.facet_list.specs.Rows.{AreBelow}
 use Rattle.trapeze_cli.specs.Steps.{Plays}
 use Rattle.trapeze_cli.proofs.play.play_lines.Given as goal
 
@@ -8,8 +7,9 @@ abbrev pub invariant-lines : goal.invariant-lines
 invariant-lines g l = record {
   good : l.reader.bad ≡ None;
   labels : l.reader.labels ≡ l.initial.reader.labels;
-  plays : Plays (g.T.Facets.rows l.initial.store) (g.T.Facets.rows l.store) (entries_with l.initial.reader []) (entries_with l.reader []);
-  below : AreBelow (length l.initial.reader.labels) (g.T.Facets.rows l.initial.store) → AreBelow (length l.initial.reader.labels) (g.T.Facets.rows l.store);
+  limits : g.T.Facets.limits l.store ≡ g.T.Facets.limits l.initial.store;
+  plays : Plays l.lattice.names (g.T.Facets.limits l.initial.store) (g.T.Facets.rows l.initial.store) (g.T.Facets.rows l.store) l.initial.told l.told
+      (entries_with l.initial.reader []) (entries_with l.reader []);
 }
 
 abbrev pub decreases-lines : goal.decreases-lines

@@ -1,11 +1,11 @@
-use Rattle.std.proofs.Common.{◌∙◌, ◌<◌, sym, ap, subst, List}
+use Rattle.std.proofs.Common.{◌∙◌, ◌<◌, sym, ap, subst, List, ℕ, length}
 use Rattle.std.specs.Prelude.{All}
 use Rattle.std.specs.Option.{option_copied}
 use Rattle.std.proofs.lemmas.List.{take_all}
 use Rattle.std.proofs.lemmas.List.Elements.{All-get_or}
 use Rattle.label_lattice.specs.Order.{flows, count}
 use Rattle.facet_list.specs.Store.{Write, read}
-use Rattle.facet_list.specs.Rows.{rows_of, IsValue}
+use Rattle.facet_list.specs.Rows.{rows_of, IsValue, AreBelow}
 use Rattle.facet_list.proofs.RowLaws.{read_rows_of, read_more}
 use Rattle.facet_list.proofs.Sizes.{below_of, read_sized}
 use Rattle.facet_list.proofs.list.FacetListFacets.read.Goals as goal
@@ -13,7 +13,7 @@ use Rattle.facet_list.proofs.list.FacetListFacets.read.Goals.{then-is_seen, else
 
 pub is_seen-requires-clause-label : goal.is_seen-requires-clause-label
 is_seen-requires-clause-label c =
-    let below = subst (λ (w : List Write). All (λ x. x.label < count c.args.lattice.now) w) (sym c.deref-write-items.ensures.value) (below_of (count c.args.lattice.now) c.args.self.now.writes.items c.requires.labels) in
+    let below = subst (λ (w : List Write). All (λ x. x.label < count c.args.lattice.now) w) (sym c.deref-write-items.ensures.value) (below_of (count c.args.lattice.now) c.args.self.now.writes.items (subst (λ (n : ℕ). AreBelow n (rows_of c.args.self.now.writes.items)) (sym c.requires.labels) c.args.self.now.sound.below)) in
     subst (λ (x : Write). x.label < count c.args.lattice.now) (sym c.write-item.is)
     (All-get_or (λ (x : Write). x.label < count c.args.lattice.now) c.deref-write-items.result.now c.writes.write-index c.write-item.result c.writes-test.true below)
 
@@ -31,4 +31,4 @@ returns-clause-value c = c.writes.invariant
     ∙ sym (read_rows_of (flows c.args.lattice.now) c.args.at.number c.args.key.now c.args.self.now.writes.items)
 
 pub returns-clause-sized : goal.returns-clause-sized
-returns-clause-sized c = subst IsValue (sym (returns-clause-value c)) (read_sized (flows c.args.lattice.now) c.args.at.number (rows_of c.args.self.now.writes.items) c.args.key.now c.args.self.now.sound)
+returns-clause-sized c = subst IsValue (sym (returns-clause-value c)) (read_sized (flows c.args.lattice.now) c.args.at.number (length c.args.self.now.limits.items) (rows_of c.args.self.now.writes.items) c.args.key.now c.args.self.now.sound)

@@ -1,0 +1,43 @@
+//! Whether a write fits.
+
+ghost use Rattle.std.specs.Prelude.{◌≡◌, ◌-◌, ◌^◌, ◌∷◌, ◌++◌, ◌&&◌, ℕ, [], Some, min, nat_le};
+ghost use Rattle.std.specs.Option.{option_copied};
+ghost use Rattle.facet_list.specs.Room.{live, size, is_within};
+
+use crate::scan::next;
+use crate::write::{Write, size_of};
+use label_lattice::Label;
+use label_limits::Limits;
+
+/// Whether the live facets at a label are within its limits after a write.
+pub(crate) fn fits(
+    writes: &[Write],
+    limits: Limits,
+    at: Label,
+    key: &[u8],
+    value: Option<&[u8]>,
+) -> bool
+    ensures { result ≡ is_within (Some limits) (live at.number (writes.now ++ record { label = at.number; key = key.now; value = option_copied value.entry } ∷ [])) }
+{
+    let mut count: u64 = 1;
+    let mut bytes = size_of(key, value);
+    let mut after = None;
+    'facets: for _ in 0..writes.len() {
+        let Some(write) = next(writes, Some(at), after) else {
+            return is_room(limits, count, bytes);
+        };
+        if !write.is_of(at, key) {
+            count = count.saturating_add(1);
+            bytes = bytes.saturating_add(write.size());
+        }
+        after = Some((write.key(), write.label()));
+    }
+    is_room(limits, count, bytes)
+}
+
+/// Whether so many facets of so many bytes are within the limits; both may be cut at the greatest number of 64 bits.
+fn is_room(limits: Limits, count: u64, bytes: u64) -> bool
+    ensures { (n sum : ℕ) → count ≡ min n (2 ^ 64 - 1) → bytes ≡ min sum (2 ^ 64 - 1) → result ≡ (nat_le n limits.facets && nat_le sum limits.bytes) }
+{
+    count <= limits.facets as u64 && bytes <= limits.bytes as u64
+}

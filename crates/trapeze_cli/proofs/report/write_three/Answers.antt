@@ -1,6 +1,0 @@
-use Rattle.trapeze_cli.proofs.Pieces.{OnErr-map, part_of_second}
-use Rattle.trapeze_cli.proofs.report.write_three.Goals as goal
-
-pub returns-clause-part : goal.returns-clause-part
-returns-clause-part g c =
-    OnErr-map c.write_whole.result (part_of_second _ _ _ _ _ c.in_ok-write_two.ensures.all) c.write_whole.ensures.part
