@@ -1,7 +1,6 @@
 -- What contracts see of a reader of an event file.
-use Rattle.std.specs.Prelude.{◌≡◌, ℕ, ◌+◌, ◌^◌, ◌<◌, List, [], ◌∷◌, ◌++◌, length, Bool, true, ◌&&◌, IsTrue, Option, Result}
-use Rattle.std.specs.Cmp.Lexicographic.{slice_cmp}
-use Rattle.std.specs.Ordering.{nat_cmp, is_lt}
+use Rattle.std.specs.Prelude.{◌≡◌, ℕ, ◌+◌, ◌^◌, ◌<◌, List, [], ◌∷◌, ◌++◌, length, Bool, Option, Result}
+use Rattle.trapeze_io.specs.Names.{Ascend}
 use Rattle.event_file.specs.Lines.{lines_of}
 use Rattle.event_file.specs.Script.{line_of, Entries, entries_from}
 use Rattle.event_file.specs.declared.entry.Entry.{Entry}
@@ -33,13 +32,7 @@ entries_with reading more =
 abbrev pub IsOneLine : List ℕ → Type 0
 IsOneLine bytes = lines_of bytes ≡ bytes ∷ []
 
--- each name stands before the next in byte order
-abbrev pub ascends : List (List ℕ) → Bool
-ascends [] = true
-ascends (name ∷ []) = true
-ascends (name ∷ next ∷ names) = is_lt (slice_cmp nat_cmp name next) && ascends (next ∷ names)
-
 -- names in byte order without repeats, that 32 bits can count
 pub record IsNumbered (names : List (List ℕ)) : Type 0 where
-  pub ascending : IsTrue (ascends names)
+  pub ascending : Ascend names
   pub few : length names < 2 ^ 32

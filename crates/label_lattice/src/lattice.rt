@@ -1,6 +1,6 @@
 //! A lattice of labels.
 
-ghost use Rattle.std.specs.Prelude.{◌≡◌, ◌<◌, ◌≤◌, Some, slice_get, length, IfOk, option_map};
+ghost use Rattle.std.specs.Prelude.{◌≡◌, ◌<◌, ◌≤◌, Some, slice_get, length, IfOk, IfSome, option_map};
 ghost use Rattle.label_lattice.specs.Order.{flows, count, place_of};
 ghost use Rattle.label_lattice.specs.Rows.{IsClosure};
 ghost use Rattle.label_lattice.specs.Joins.{IsJoin, join};
@@ -86,7 +86,8 @@ impl Lattice {
 
     /// The label with this name, if there is one.
     pub fn find(&self, name: &[u8]) -> Option<Label>
-        ensures { option_map (λ label. label.number) result ≡ place_of name.now self.now.names }
+        ensures place { option_map (λ label. label.number) result ≡ place_of name.now self.now.names }
+        ensures within { IfSome result (λ label. label.number < count self.now) }
     {
         match self.names.find(name) {
             Some(number) => Some(Label { number }),

@@ -27,7 +27,7 @@ use Rattle.labelled_channel.specs.declared.channels.Channel.{Channel}
 use Rattle.policy_toml.specs.declared.place.Part.{Part}
 use Rattle.policy_toml.specs.declared.error.PolicyError.{PolicyError}
 use Rattle.policy_toml.specs.declared.error.PolicyError.TheVariants.{Toml, OutOfRange}
-use Rattle.policy_toml.specs.Ascending.{Ascend}
+use Rattle.trapeze_io.specs.Names.{Ascend}
 use Rattle.policy_toml.specs.Places.{whole}
 use Rattle.policy_toml.specs.Rows.{Reading, ◌>>=◌, each_row, items_of, rows_of, keys_in}
 use Rattle.policy_toml.specs.Steps.{document_of, two_texts, at_most}

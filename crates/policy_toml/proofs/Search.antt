@@ -12,7 +12,7 @@ use Rattle.std.proofs.lemmas.List.Sorted.{IsNonDecreasingBy-from_default}
 use Rattle.std.proofs.lemmas.Iterator.Adapters.{position_from-zero}
 use Rattle.std.proofs.lemmas.Map.Keys.{Less-from_sorted}
 use Rattle.label_lattice.specs.Order.{place_of}
-use Rattle.policy_toml.specs.Ascending.{Ascend}
+use Rattle.trapeze_io.specs.Names.{Ascend}
 use Rattle.policy_toml.proofs.Rows.{none_left, apart_from}
 
 -- how a name compares with another

@@ -8,7 +8,7 @@ use Rattle.label_lattice.specs.Order.{Order, count}
 use Rattle.label_limits.specs.Ranges.{AreWithin}
 use Rattle.label_limits.specs.declared.limits.Limits.{Limits}
 use Rattle.labelled_channel.specs.declared.channels.Channel.{Channel}
-use Rattle.policy_toml.specs.Ascending.{Ascend}
+use Rattle.trapeze_io.specs.Names.{Ascend}
 use Rattle.policy_toml.specs.Steps.{root_keys, labels_of, flows_of, lattice_of, limits_of, functions_of, channels_of, clients_of, is_file_name, IsFunction, IsClient, IsChannel}
 use Rattle.policy_toml.specs.Parts.{IsPolicy}
 use Rattle.policy_toml.specs.PolicyOf.{table_policy}

@@ -1,6 +1,5 @@
 pub mod Places
 pub mod Rows
-pub mod Ascending
 pub mod Steps
 pub mod Parts
 pub mod PolicyOf

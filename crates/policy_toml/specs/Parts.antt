@@ -4,7 +4,7 @@ use Rattle.label_lattice.specs.Order.{Order, count}
 use Rattle.label_limits.specs.Ranges.{AreWithin}
 use Rattle.label_limits.specs.declared.limits.Limits.{Limits}
 use Rattle.labelled_channel.specs.declared.channels.Channel.{Channel}
-use Rattle.policy_toml.specs.Ascending.{Ascend}
+use Rattle.trapeze_io.specs.Names.{Ascend}
 use Rattle.policy_toml.specs.Steps.{is_file_name, IsChannel}
 
 -- the parts of a policy; functions and clients are numbered by position

@@ -3,7 +3,7 @@
 ghost use Rattle.std.specs.Prelude.{◌≡◌, ◌≤◌, Some, None, option_map, map, length, IfOk, All};
 ghost use Rattle.toml.specs.View.{view, table_view};
 ghost use Rattle.label_lattice.specs.Order.{count};
-ghost use Rattle.policy_toml.specs.Ascending.{Ascend};
+ghost use Rattle.trapeze_io.specs.Names.{Ascend};
 ghost use Rattle.policy_toml.specs.Rows.{Reads, each_row, rows_of};
 ghost use Rattle.policy_toml.specs.Steps.{client_row, clients_of, IsClient};
 

@@ -5,7 +5,7 @@ ghost use Rattle.std.specs.Cmp.Lexicographic.{slice_cmp};
 ghost use Rattle.std.specs.Ordering.{nat_cmp};
 ghost use Rattle.toml.specs.View.{view, table_view};
 ghost use Rattle.label_lattice.specs.Order.{place_of};
-ghost use Rattle.policy_toml.specs.Ascending.{Ascend};
+ghost use Rattle.trapeze_io.specs.Names.{Ascend};
 ghost use Rattle.policy_toml.specs.Rows.{Reads, each_row, rows_of};
 ghost use Rattle.policy_toml.specs.Steps.{function_row, functions_of, function_at, IsFunction};
 

@@ -10,7 +10,7 @@ use Rattle.trapeze_cli.specs.declared.status.Status.{Status}
 use Rattle.trapeze_cli.specs.declared.status.Status.TheVariants.{Done, Usage, Policy, Events, ReadFault, WriteFault, NoMemory, TooLong}
 use Rattle.trapeze_cli.specs.declared.status.Input.{Input}
 use Rattle.trapeze_cli.specs.declared.status.Input.TheVariants.{Events as events_input}
-use Rattle.trapeze_cli.specs.Command.{Scene, ◌>>=◌, files_of, policy_in, entries_in, scene_of}
+use Rattle.trapeze_cli.specs.Command.{Scene, ◌>>=◌, files_of, policy_in, entries_in, entries_under, scene_of}
 use Rattle.trapeze_cli.specs.Play.{events_of}
 use Rattle.trapeze_cli.specs.Statuses.{file_name}
 use Rattle.trapeze_cli.specs.Steps.{Ends, IsFaultOf}
@@ -25,23 +25,23 @@ after_policy (Err e) next parts status is k = absurd is
 
 -- the scene of a policy that was read
 scene_under : Held → List ℕ → Written → Result Scene Status
-scene_under h events policy = entries_in h events policy.names >>= (λ read. Ok (record { policy = policy; events = events_of read.entries; bad = read.bad }))
+scene_under h events policy = entries_under h events policy >>= (λ read. Ok (record { policy = policy; events = events_of read.entries; bad = read.bad }))
 
 scene_is : (words : List (List ℕ)) (h : Held) (policy events : List ℕ) → files_of words ≡ Some (policy, events) → scene_of words h ≡ (policy_in h policy >>= scene_under h events)
 unfolding scene_under
 scene_is words h policy events files = rw files refl
 
-under_ends : (h : Held) (events : List ℕ) (names : List (List ℕ)) (policy : Written) (status : Status) → names ≡ policy.names
-    → entries_in h events names ≡ Err status → scene_under h events policy ≡ Err status
+under_ends : (h : Held) (events : List ℕ) (parts : Parts) (policy : Written) (status : Status) → IsAsWritten policy parts
+    → entries_in h events parts.lattice.names parts.clients parts.functions ≡ Err status → scene_under h events policy ≡ Err status
 unfolding scene_under
-under_ends h events names policy status same ends = rw (← same, ends) refl
+under_ends h events parts policy status is ends = rw (← is.lattice.same, ← is.clients, ← is.functions, ends) refl
 
 scene_ends : (words : List (List ℕ)) (h : Held) (policy events : List ℕ) (parts : Parts) (status : Status)
     → files_of words ≡ Some (policy, events) → IsOkAnd (policy_in h policy) (λ written. IsAsWritten written parts)
-    → entries_in h events parts.lattice.names ≡ Err status → scene_of words h ≡ Err status
+    → entries_in h events parts.lattice.names parts.clients parts.functions ≡ Err status → scene_of words h ≡ Err status
 scene_ends words h policy events parts status files read ends =
     scene_is words h policy events files
-    ∙ after_policy (policy_in h policy) (scene_under h events) parts status read (λ written is. under_ends h events parts.lattice.names written status is.lattice.same ends)
+    ∙ after_policy (policy_in h policy) (scene_under h events) parts status read (λ written is. under_ends h events parts written status is ends)
 
 was_ok : {X : Type 0} (read : Result X Status) (P : X → Type 0) → IsOkAnd read P → IsOk read
 was_ok (Ok x) P is = refl
@@ -83,7 +83,7 @@ fault_after words policy events before mid now mark last opens opens_mid opens_n
 
 refusal : (words : List (List ℕ)) (held : Option Held) (policy events : List ℕ) (parts : Parts) (status : Status)
     → files_of words ≡ Some (policy, events) → IfSome held (λ h. IsOkAnd (policy_in h policy) (λ written. IsAsWritten written parts))
-    → IfSome (option_map (λ h. entries_in h events parts.lattice.names) held) (λ e. e ≡ Err status) → IfSome (option_map (scene_of words) held) (λ e. e ≡ Err status)
+    → IfSome (option_map (λ h. entries_in h events parts.lattice.names parts.clients parts.functions) held) (λ e. e ≡ Err status) → IfSome (option_map (scene_of words) held) (λ e. e ≡ Err status)
 refusal words None policy events parts status files read ends = tt
 refusal words (Some h) policy events parts status files read ends = scene_ends words h policy events parts status files read ends
 
@@ -91,7 +91,7 @@ refusal words (Some h) policy events parts status files read ends = scene_ends w
 end_of : (words : List (List ℕ)) (held : Option Held) (policy events : List ℕ) (parts : Parts) (before mid now mark : ℕ) (last : Option (List ℕ)) (opens opens_mid opens_now : Option ℕ) (status : Status)
     → files_of words ≡ Some (policy, events) → IfSome held (λ h. IsOkAnd (policy_in h policy) (λ written. IsAsWritten written parts))
     → before ≤ mid → IfSome last (λ name. name ≡ events) → opens_mid ≡ one_more_open opens → opens_now ≡ one_more_open opens_mid
-    → Ends (option_map (λ h. entries_in h events parts.lattice.names) held) (IsFaultOf events_input mid now mark) status
+    → Ends (option_map (λ h. entries_in h events parts.lattice.names parts.clients parts.functions) held) (IsFaultOf events_input mid now mark) status
     → Ends (option_map (scene_of words) held) (λ input. IsReadFault words input before now mark last opens opens_now × IfSome held (λ h. Reaches words h input)) status
 end_of words held policy events parts before mid now mark last opens opens_mid opens_now Done files read order named first second ends = ends
 end_of words held policy events parts before mid now mark last opens opens_mid opens_now Usage files read order named first second ends = ends
@@ -111,11 +111,11 @@ end_of words held policy events parts before mid now mark last opens opens_mid o
 pub later_end : (words : List (List ℕ)) (held held_mid : Option Held) (policy events : List ℕ) (parts : Parts) (before mid now mark : ℕ) (last : Option (List ℕ)) (opens opens_mid opens_now : Option ℕ) (status : Status)
     → files_of words ≡ Some (policy, events) → IfSome held (λ h. IsOkAnd (policy_in h policy) (λ written. IsAsWritten written parts)) → held_mid ≡ held
     → before ≤ mid → IfSome last (λ name. name ≡ events) → opens_mid ≡ one_more_open opens → opens_now ≡ one_more_open opens_mid
-    → Ends (option_map (λ h. entries_in h events parts.lattice.names) held_mid) (IsFaultOf events_input mid now mark) status
+    → Ends (option_map (λ h. entries_in h events parts.lattice.names parts.clients parts.functions) held_mid) (IsFaultOf events_input mid now mark) status
     → Ends (option_map (scene_of words) held) (λ input. IsReadFault words input before now mark last opens opens_now × IfSome held (λ h. Reaches words h input)) status
 later_end words held held_mid policy events parts before mid now mark last opens opens_mid opens_now status files read same order named first second ends =
     end_of words held policy events parts before mid now mark last opens opens_mid opens_now status files read order named first second
-    (subst (λ (h : Option Held). Ends (option_map (λ h. entries_in h events parts.lattice.names) h) (IsFaultOf events_input mid now mark) status) same ends)
+    (subst (λ (h : Option Held). Ends (option_map (λ h. entries_in h events parts.lattice.names parts.clients parts.functions) h) (IsFaultOf events_input mid now mark) status) same ends)
 
 -- what follows of the fact of an error
 pub IfErr-map : {T E : Type 0} {P Q : E → Type 0} (result : Result T E) → ((e : E) → P e → Q e) → IfErr result P → IfErr result Q

@@ -11,8 +11,9 @@ use Rattle.facet_list.specs.Room.{fits}
 use Rattle.facet_list.specs.declared.facets.Wrote.{Wrote}
 use Rattle.facet_list.specs.declared.facets.Wrote.TheVariants.{Done, Full}
 use Rattle.facet_list.proofs.RowLaws.{rows_of-push}
-use Rattle.event_file.specs.Script.{Entries, after, onto, line_of, IsWithin}
-use Rattle.event_file.specs.Reading.{Reading, entries_with}
+use Rattle.event_file.specs.Script.{Entries, after, onto, line_of, entries_of, IsWithin}
+use Rattle.event_file.specs.Reading.{Reading, IsNumbered, entries_with}
+use Rattle.policy_toml.specs.Parts.{Parts, IsPolicy}
 use Rattle.event_file.specs.Calls.{used_up}
 use Rattle.event_file.specs.declared.fault.LineError.{LineError}
 use Rattle.event_file.specs.declared.entry.Entry.{Entry}
@@ -149,3 +150,16 @@ full_played names limits event wrote before now told told_now fit full same line
       store = same ∙ is ∙ ap (λ b. rows_of (cond b (w ++ write_of event ∷ []) w)) (sym not_so);
       lines = line ∙ ap (λ t. told ++ t) (sym (append-nil (line_text names (full_line (write_of event))))) ∙ ap (λ b. told ++ text names (map full_line (cond b [] (write_of event ∷ [])) ++ [])) (sym not_so);
     }
+
+-- the clients and the functions of a policy can be numbered
+pub numbered_clients : (parts : Parts) (names : List (List ℕ)) → IsPolicy parts → names ≡ parts.clients → IsNumbered names
+numbered_clients parts names is same = subst IsNumbered (sym same) (record { ascending = is.clients; few = omega (arith, is.few_clients) })
+
+pub numbered_functions : (parts : Parts) (names : List (List ℕ)) → IsPolicy parts → names ≡ parts.functions → IsNumbered names
+numbered_functions parts names is same = subst IsNumbered (sym same) (record { ascending = is.functions; few = omega (arith, is.few_functions) })
+
+-- what is fed whole gives the entries of the file
+pub fed_entries : (labels clients functions names_of_labels names_of_clients names_of_functions : List (List ℕ)) (bytes : List ℕ)
+    → labels ≡ names_of_labels → clients ≡ names_of_clients → functions ≡ names_of_functions
+    → entries_of labels clients functions (bytes ++ []) ≡ entries_of names_of_labels names_of_clients names_of_functions bytes
+fed_entries labels clients functions names_of_labels names_of_clients names_of_functions bytes l c f = rw (l, c, f, append-nil bytes) refl

@@ -1,5 +1,5 @@
 -- What a call of the program answers, by its words and the files that are held.
-use Rattle.std.specs.Prelude.{ℕ, Bool, List, [], ◌∷◌, length, codes, nat_eq, nat_lt, if◌then◌else◌, Option, Some, None, Result, Ok, Err}
+use Rattle.std.specs.Prelude.{ℕ, Bool, List, [], ◌∷◌, length, map, codes, nat_eq, nat_lt, if◌then◌else◌, Option, Some, None, Result, Ok, Err}
 use Rattle.std.specs.Cmp.Lexicographic.{pointwise}
 use Rattle.trapeze_io.specs.Streams.{Held}
 use Rattle.label_lattice.specs.Reach.{closes}
@@ -64,9 +64,14 @@ accepted (Err fault) = Err (Policy fault)
 abbrev pub policy_in : Held → List ℕ → Result Written Status
 policy_in held name = file_of held name policy_limit policy_input >>= (λ bytes. accepted (policy_of bytes))
 
--- the entries of a file whose lines may use these labels, up to its first bad line
-abbrev pub entries_in : Held → List ℕ → List (List ℕ) → Result Entries Status
-entries_in held name labels = file_of held name events_limit events_input >>= (λ bytes. Ok (entries_of labels [] [] bytes))
+-- the entries of a file whose lines may use these labels, clients and functions, up to its first bad line
+abbrev pub entries_in : Held → List ℕ → List (List ℕ) → List (List ℕ) → List (List ℕ) → Result Entries Status
+entries_in held name labels clients functions =
+    file_of held name events_limit events_input >>= (λ bytes. Ok (entries_of labels clients functions bytes))
+
+-- the entries of a file whose lines may use what a policy names
+abbrev pub entries_under : Held → List ℕ → Written → Result Entries Status
+entries_under held name policy = entries_in held name policy.names (map (λ c. c.0) policy.clients) (map (λ f. f.0) policy.functions)
 
 -- the policy and the events that a call plays, and the bad line that ends them, if there is one
 pub record Scene : Type 0 where
@@ -79,7 +84,7 @@ abbrev pub scene_of : List (List ℕ) → Held → Result Scene Status
 scene_of words held = do
   files ← known_form (files_of words)
   policy ← policy_in held files.0
-  read ← entries_in held files.1 policy.names
+  read ← entries_under held files.1 policy
   Ok (record { policy = policy; events = events_of read.entries; bad = read.bad })
 
 -- the lines of events: with those of the facets where the file ends, and without where a bad line ends it

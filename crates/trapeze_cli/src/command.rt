@@ -139,9 +139,9 @@ fn play_file<F: Files>(
     ensures number { F.opens files.new ≡ one_more_open (F.opens files.old) }
     ensures name { IfSome (F.last_name files.new) (λ last. last ≡ name.now) }
     ensures later { F.faults files.old ≤ F.faults files.new }
-    ensures ok { IfOk result (λ played. IfSome (F.held files.old) (λ held. IsOkAnd (entries_in held name.now policy.now.lattice.names)
+    ensures ok { IfOk result (λ played. IfSome (F.held files.old) (λ held. IsOkAnd (entries_in held name.now policy.now.lattice.names policy.now.clients policy.now.functions)
         (λ read. played ≡ record { text = text policy.now.lattice.names (lines_until read.bad policy.now.limits (start []) (events_of read.entries)); bad = read.bad }))) }
-    ensures err { IfErr result (λ status. Ends (option_map (λ held. entries_in held name.now policy.now.lattice.names) (F.held files.old))
+    ensures err { IfErr result (λ status. Ends (option_map (λ held. entries_in held name.now policy.now.lattice.names policy.now.clients policy.now.functions) (F.held files.old))
         (IsFaultOf Input.Events (F.faults files.old) (F.faults files.new) (F.mark files.new)) status) }
     ensures memory { IfErr result IsNoWant }
 {
@@ -155,16 +155,15 @@ fn play_file<F: Files>(
 /// What the events give which the bytes of a file say, from an empty store.
 fn play_text(alloc: Global, policy: &Policy, bytes: &[u8]) -> Result<Played, NoMemory>
     requires { length bytes.now < 2 ^ 62 }
-    ensures bad { IfOk result (λ played. played.bad ≡ (entries_of policy.now.lattice.names [] [] bytes.now).bad) }
-    ensures text { IfOk result (λ played. played.text ≡ text policy.now.lattice.names (lines_until (entries_of policy.now.lattice.names [] [] bytes.now).bad policy.now.limits (start [])
-        (events_of (entries_of policy.now.lattice.names [] [] bytes.now).entries))) }
+    ensures bad { IfOk result (λ played. played.bad ≡ (entries_of policy.now.lattice.names policy.now.clients policy.now.functions bytes.now).bad) }
+    ensures text { IfOk result (λ played. played.text ≡ text policy.now.lattice.names (lines_until (entries_of policy.now.lattice.names policy.now.clients policy.now.functions bytes.now).bad policy.now.limits (start [])
+        (events_of (entries_of policy.now.lattice.names policy.now.clients policy.now.functions bytes.now).entries))) }
 {
-    let lattice = policy.lattice();
     let mut store = FacetList::new(alloc, policy.limits())?;
     let mut text = Bytes::new(alloc);
-    let bad = play_bytes(alloc, lattice, bytes, &mut store, &mut text)?;
+    let bad = play_bytes(alloc, policy, bytes, &mut store, &mut text)?;
     if bad.is_none() {
-        add_facets(alloc, lattice, &store, &mut text)?;
+        add_facets(alloc, policy.lattice(), &store, &mut text)?;
     }
     Ok(Played { text, bad })
 }

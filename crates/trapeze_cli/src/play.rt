@@ -14,6 +14,7 @@ use crate::lines::add_full;
 use event_file::{Entry, Event, EventReader, LineError, Next};
 use facet_list::{Facets, Wrote};
 use label_lattice::Lattice;
+use policy_toml::Policy;
 use std::alloc::Global;
 use trapeze_io::{Bytes, NoMemory};
 
@@ -21,19 +22,20 @@ use trapeze_io::{Bytes, NoMemory};
 /// give.
 pub(crate) fn play_bytes<T: Facets>(
     alloc: Global,
-    lattice: &Lattice,
+    policy: &Policy,
     bytes: &[u8],
     store: &mut T,
     told: &mut Bytes,
 ) -> Result<Option<LineError>, NoMemory>
     requires few { length bytes.now < 2 ^ 62 }
-    requires labels { length (T.limits store.old) ≡ count lattice.now }
-    ensures bad { IfOk result (λ bad. (entries_of lattice.now.names [] [] bytes.now).bad ≡ bad) }
-    ensures ok { OnOk result (ArePlayed lattice.now.names (T.limits store.old) (events_of (entries_of lattice.now.names [] [] bytes.now).entries)
+    requires labels { length (T.limits store.old) ≡ count policy.now.lattice }
+    ensures bad { IfOk result (λ bad. (entries_of policy.now.lattice.names policy.now.clients policy.now.functions bytes.now).bad ≡ bad) }
+    ensures ok { OnOk result (ArePlayed policy.now.lattice.names (T.limits store.old) (events_of (entries_of policy.now.lattice.names policy.now.clients policy.now.functions bytes.now).entries)
         (T.rows store.old) (T.rows store.new) told.old told.new) }
     ensures limits { T.limits store.new ≡ T.limits store.old }
 {
-    let mut reader = EventReader::new(alloc, lattice, &[], &[]);
+    let lattice = policy.lattice();
+    let mut reader = EventReader::new(alloc, lattice, policy.clients(), policy.functions());
     reader.feed(bytes)?;
     match play_lines(alloc, lattice, &mut reader, store, told)? {
         Some(bad) => Ok(Some(bad)),

@@ -4,7 +4,7 @@ use Rattle.toml.specs.View.{table_view}
 use Rattle.label_lattice.specs.Order.{count}
 use Rattle.label_lattice.specs.Faults.{Denotes}
 use Rattle.policy_toml.specs.Steps.{lattice_of, limits_of, channels_of, clients_of, IsRowOf}
-use Rattle.policy_toml.specs.Ascending.{Ascend}
+use Rattle.trapeze_io.specs.Names.{Ascend}
 use Rattle.policy_toml.specs.PolicyOf.{limits_by_label}
 use Rattle.policy_toml.proofs.Whole.{is_policy, accepted}
 use Rattle.policy_toml.proofs.read.read_table.Goals as goal

@@ -5,6 +5,6 @@ use Rattle.trapeze_cli.proofs.FacetTexts.{words_added}
 use Rattle.trapeze_cli.proofs.lines.add_facet.Goals as goal
 
 pub returns : goal.returns
-returns c = rw (get_or_from_slice_get c.args.lattice.now.names c.args.label.number c.name.result [] c.name.ensures, ← c.as_bytes.ensures)
+returns c = rw (get_or_from_slice_get c.args.lattice.now.names c.args.label.number c.name.result [] c.name.ensures, ← c.as_bytes.ensures.value)
     (OnOk-map c.append-5.result (words_added _ _ _ _ _ _ _ _ _ _ _ _ _ _ c.in_ok-append.ensures.ok c.in_ok-append-2.ensures.ok
     c.in_ok-append-3.ensures.ok c.in_ok-add_bytes.ensures c.in_ok-append-4.ensures.ok c.in_ok-add_value.ensures) c.append-5.ensures.ok)

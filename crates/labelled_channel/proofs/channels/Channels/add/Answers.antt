@@ -13,7 +13,7 @@ pub returns-clause-ok : goal.returns-clause-ok
 returns-clause-ok c = elim c.match-insert.branch [
   | in-Ok-insert w ↦ rw w.result-is (
       let channel : Channel = record { at = c.args.at; function = c.args.function } in
-      let items : c.in-Ok.name.items ≡ c.args.name = c.in-Ok.ensures.items ∙ c.as_bytes.ensures in
+      let items : c.in-Ok.name.items ≡ c.args.name = c.in-Ok.ensures.items ∙ c.as_bytes.ensures.value in
       let fresh : channel_of c.args.name (map {B = List ℕ × Channel} (λ e. (e.0.items, e.1)) c.self.inside.channels.entries) ≡ None = ap (channel_of c.args.name) c.self.view_is ∙ c.requires.fresh in
       let inserted = insert_fresh (λ k. k.items) (λ a b. pointwise nat_eq a.items b.items) (pointwise nat_eq c.args.name) c.self.inside.channels.entries c.in-Ok.name channel (λ q. ap (λ n. pointwise nat_eq n q.items) items) fresh in
       ap (map {B = List ℕ × Channel} (λ e. (e.0.items, e.1))) w.in-Ok-insert.ensures.entries
