@@ -4,7 +4,7 @@ ghost use Rattle.std.specs.Prelude.{◌≡◌, ◌∷◌, ◌++◌, [], length, 
 ghost use Rattle.trapeze_io.specs.Plan.{FailsNext, after_call, no_plan};
 
 use crate::failures::{Failed, NoMemory, count_fault};
-use crate::script::Script;
+use crate::plan::Plan;
 use crate::streams::Sink;
 use std::alloc::Global;
 use std::marker::Model;
@@ -16,7 +16,7 @@ use std::marker::Model;
 pub struct MemSink {
     bytes: Vec<u8>,
     faults: u64,
-    script: Script,
+    plan: Plan,
 }
 
 impl Model for MemSink {
@@ -24,7 +24,7 @@ impl Model for MemSink {
 
     ghost Value = { SinkState };
 
-    ghost view = { λ s. record { written = s.bytes.items; faults = s.faults; plan = s.script } };
+    ghost view = { λ s. record { written = s.bytes.items; faults = s.faults; plan = s.plan } };
 }
 
 impl MemSink {
@@ -35,7 +35,7 @@ impl MemSink {
         MemSink {
             bytes: Vec::new(alloc),
             faults: 0,
-            script: Script::new(alloc),
+            plan: Plan::new(alloc),
         }
     }
 
@@ -44,14 +44,14 @@ impl MemSink {
         ensures ok { OnOk result (self.new ≡ record self.old { plan = record self.old.plan { failing = self.old.plan.failing ++ call ∷ [] } }) }
         ensures err { OnErr result (self.new ≡ self.old) }
     {
-        self.script.fail_at(call)
+        self.plan.fail_at(call)
     }
 
     /// Lets a write take at most that many bytes, and at least 1.
     pub fn step(&mut self, most: u32)
         ensures { self.new ≡ record self.old { plan = record self.old.plan { most = max most 1 } } }
     {
-        self.script.step(most);
+        self.plan.step(most);
     }
 
     /// The bytes written.
@@ -64,7 +64,7 @@ impl MemSink {
 
 impl Sink for MemSink {
     ghost use Rattle.trapeze_io.specs.Causes.{HasCause, one_more};
-    ghost use Rattle.trapeze_io.specs.Streams.{Writes, WritesSome};
+    ghost use Rattle.trapeze_io.specs.Sinks.{Writes, WritesSome};
 
     ghost written = { λ s. Some s.written };
 
@@ -80,8 +80,8 @@ impl Sink for MemSink {
         ensures taken { OnOk result (self.new.faults ≡ self.old.faults) }
         ensures failed { OnErr result (self.new.faults ≡ one_more self.old.faults) }
     {
-        let count = piece.len().min(self.script.most());
-        if !self.script.next_fails() && self.bytes.extend_from_slice(&piece[..count]).is_ok() {
+        let count = piece.len().min(self.plan.most());
+        if !self.plan.next_fails() && self.bytes.extend_from_slice(&piece[..count]).is_ok() {
             return Ok(count);
         }
         Err(count_fault(&mut self.faults))

@@ -103,7 +103,24 @@ fn a_file_is_read_whole_after_each_failing_call(rt: HostRuntime) -> Result<(), F
 }
 
 #[test]
-fn a_write_that_fails_leaves_a_front(rt: HostRuntime) -> Result<(), Fail> {
+fn a_fault_one_call_past_the_last_changes_nothing(rt: HostRuntime) -> Result<(), Fail> {
+    // An open, a read of all and one of nothing are three calls.
+    let mut files = MemFiles::new(rt.alloc());
+    files.hold("five", b"hello")?;
+    files.fail_at(4)?;
+    let bytes = read_whole(rt.alloc(), &mut files, "five", 5)?;
+    assert_eq!(rt; bytes.as_slice(), b"hello".as_slice());
+    // Writes of three bytes and of two are two calls.
+    let mut sink = MemSink::new(rt.alloc());
+    sink.step(3);
+    sink.fail_at(3)?;
+    assert_eq!(rt; write_whole(&mut sink, b"hello"), Ok(()));
+    assert_eq!(rt; sink.written(), b"hello".as_slice());
+    Ok(())
+}
+
+#[test]
+fn a_write_that_fails_leaves_a_prefix(rt: HostRuntime) -> Result<(), Fail> {
     let mut sink = MemSink::new(rt.alloc());
     sink.step(3);
     sink.fail_at(2)?;

@@ -1,5 +1,5 @@
 use Rattle.std.proofs.Common.{ℕ, arith, length-drop, length-append}
-use Rattle.trapeze_io.specs.OpenFile.{bytes_at}
+use Rattle.trapeze_io.specs.Places.{bytes_at}
 use Rattle.trapeze_io.proofs.Pieces.{piece_read}
 use Rattle.trapeze_io.proofs.memory_files.MemFilesFiles.read.Goals as goal
 
@@ -11,5 +11,5 @@ returns-clause-bytes c =
     rw (← c.self.view_is)
     (piece_read xs c.copy_from_slice.new.self c.args.buf.now at c.min-count.result
     (rw (c.left-rest.ensures.rest, c.deref.ensures.value) at c.copy_from_slice.ensures.after)
-    (omega (arith, room, c.min-count.ensures, c.self.invariant.given))
+    (omega (arith, room, c.min-count.ensures, c.self.invariant.0.given))
     (λ z h. omega (arith, room, c.min-count.ensures, z, h, c.most.ensures.some, length-append {A = ℕ}, length-drop {A = ℕ}, c.copy_from_slice.ensures.len)))

@@ -1,4 +1,4 @@
-//! The failures that a form in memory is told to make.
+//! Which calls of a form in memory fail, and how much its calls move.
 
 ghost use Rattle.std.specs.Prelude.{◌≡◌, ◌∷◌, ◌++◌, ◌==◌, [], ◌<◌, OnOk, OnErr, max};
 ghost use Rattle.std.specs.List.{list_any};
@@ -10,13 +10,13 @@ use std::marker::Model;
 
 /// Which calls fail, how many were made, and the most bytes that one moves.
 #[derive(Drop)]
-pub(crate) struct Script {
+pub(crate) struct Plan {
     failing: Vec<u32>,
     calls: u64,
     most: usize,
 }
 
-impl Model for Script {
+impl Model for Plan {
     ghost use Rattle.std.specs.Prelude.{◌<◌};
     ghost use Rattle.trapeze_io.specs.Plan.{Plan};
 
@@ -27,12 +27,12 @@ impl Model for Script {
     ghost invariant = { λ s. 0 < s.most };
 }
 
-impl Script {
+impl Plan {
     /// No call fails.
-    pub(crate) fn new(alloc: Global) -> Script
+    pub(crate) fn new(alloc: Global) -> Plan
         ensures { result ≡ no_plan usize.MAX }
     {
-        Script {
+        Plan {
             failing: Vec::new(alloc),
             calls: 0,
             most: usize::MAX,

@@ -1,0 +1,14 @@
+-- Definitions that say an answer or a fault, and calls that answer them unless they are out of memory.
+use Rattle.std.specs.Prelude.{◌≡◌, Result, Ok, Err, IfSome}
+use Rattle.std.specs.declared.option.Option.{Option}
+
+-- an answer goes on to the next step, and the first fault ends the steps
+infixl 10 ◌>>=◌
+abbrev pub ◌>>=◌ : {A B F : Type 0} → Result A F → (A → Result B F) → Result B F
+Ok x >>= f = f x
+Err fault >>= f = Err fault
+
+-- a call answers what a definition says, or is out of memory, which is the error that is no fault
+abbrev pub Answers : {A E F : Type 0} → (E → Option F) → Result A F → Result A E → Type 0
+Answers fault_of said (Ok value) = said ≡ Ok value
+Answers fault_of said (Err error) = IfSome (fault_of error) (λ fault. said ≡ Err fault)

@@ -1,0 +1,7 @@
+//! How long keys, values, messages and bodies may be.
+
+/// The most bytes of a key.
+pub const LONGEST_KEY: usize = 1024;
+
+/// The most bytes of a value, a message, a reply or a body.
+pub const LONGEST_VALUE: usize = 65_536;
