@@ -96,6 +96,19 @@ meet_turned n f a b m = (
   λ meet. record { left = meet.left; right = meet.right; least = meet.greatest },
 )
 
+-- the tests are exact
+pub exact_join : (n : ℕ) (f : ℕ → ℕ → Bool) (a b : ℕ) → IsTrue (has_join n f a b) ↔ ((j : ℕ) × (j < n) × IsJoin n f a b j)
+exact_join n f a b = (
+  λ h. let (j, lj, e) = (any_label (is_join n f a b) n).0 h in (j, lj, (is_join_exact n f a b j).0 e),
+  λ h. has_from_join n f a b h.0 h.1 h.2,
+)
+
+pub exact_meet : (n : ℕ) (f : ℕ → ℕ → Bool) (a b : ℕ) → IsTrue (has_meet n f a b) ↔ ((m : ℕ) × (m < n) × IsMeet n f a b m)
+exact_meet n f a b = (
+  λ h. let (m, lm, e) = (any_label (is_join n (turned f) a b) n).0 h in (m, lm, (meet_turned n f a b m).0 ((is_join_exact n (turned f) a b m).0 e)),
+  λ h. has_from_join n (turned f) a b h.0 h.1 ((meet_turned n f a b h.0).1 h.2),
+)
+
 pub mapped_none : {X Y : Type 0} (g : X → Y) (o : Option X) → option_map g o ≡ None → o ≡ None
 mapped_none g None e = refl
 mapped_none g (Some x) e = cc

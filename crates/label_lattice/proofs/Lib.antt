@@ -12,3 +12,5 @@ pub mod Whole
 pub mod Tops
 pub mod Built
 pub mod Joined
+pub mod Tables
+pub mod Halves

@@ -9,7 +9,7 @@ use Rattle.std.proofs.Math.Seq.{take-append_seam}
 use Rattle.std.proofs.lemmas.Bool.{le-ltb}
 use Rattle.std.proofs.lemmas.Bool.Decides.{Decides-eqb}
 use lib.Pointwise.{bytes_decides}
-use Rattle.trapeze_io.specs.Names.{is_name, placed}
+use Rattle.trapeze_io.specs.Names.{is_name, padded}
 use Rattle.trapeze_io.specs.contracts.names.NamePartialEq.TheImpl.{eq-value}
 use Rattle.label_lattice.specs.Order.{place_of}
 
@@ -24,11 +24,11 @@ and_right false y h = cc
 -- names in place are equal exactly where their bytes are
 pub same_name : (a b : List ℕ) → eq-value.it a b ≡ pointwise nat_eq a b
 same_name a b = both_ways (eq-value.it a b) (pointwise nat_eq a b)
-    (λ h. let places : placed a ≡ placed b = (bytes_decides (placed a) (placed b)).0 (and_left _ _ h) in
+    (λ h. let places : padded a ≡ padded b = (bytes_decides (padded a) (padded b)).0 (and_left _ _ h) in
     let sizes : length a ≡ length b = (Decides-eqb (length a) (length b)).0 (and_right _ _ h) in
-    (bytes_decides a b).1 (sym (take-append_seam a (replicate (64 - length a) 0)) ∙ ap (take (length a)) places ∙ ap (λ n. take n (placed b)) sizes ∙ take-append_seam b (replicate (64 - length b) 0)))
+    (bytes_decides a b).1 (sym (take-append_seam a (replicate (64 - length a) 0)) ∙ ap (take (length a)) places ∙ ap (λ n. take n (padded b)) sizes ∙ take-append_seam b (replicate (64 - length b) 0)))
     (λ h. let same : a ≡ b = (bytes_decides a b).0 h in subst (λ (x : List ℕ). eq-value.it a x ≡ true) same
-    (both_true ((bytes_decides (placed a) (placed a)).1 refl) ((Decides-eqb (length a) (length a)).1 refl)))
+    (both_true ((bytes_decides (padded a) (padded a)).1 refl) ((Decides-eqb (length a) (length a)).1 refl)))
 
 all_pass : (name : List ℕ) (names : List (List ℕ)) → is_name name ≡ false → ((i : ℕ) (x : List ℕ) → slice_get names i ≡ Some x → is_name x ≡ true) → prefix_len (λ k. not (pointwise nat_eq name k)) names ≡ length names
 all_pass name [] bad h = refl

@@ -1,7 +1,8 @@
 -- When names and pairs make a lattice.
-use Rattle.std.specs.Prelude.{◌≡◌, ℕ, List, None, Contains, ◌↔◌, length}
+use Rattle.std.specs.Prelude.{◌≡◌, ◌<◌, ℕ, Bool, IsTrue, List, None, Contains, ◌↔◌, length}
 use Rattle.label_lattice.specs.Reach.{closes}
 use Rattle.label_lattice.specs.Faults.{first_fault, numbered}
+use Rattle.label_lattice.specs.Joins.{has_join, has_meet, IsJoin, IsMeet}
 use Rattle.label_lattice.specs.Sound.{AreNames, IsLattice}
 
 -- 1 to 64 different names, pairs of them, and by the pairs an order in which each two labels have a join and a meet
@@ -13,3 +14,11 @@ pub record MakesLattice (names : List (List ℕ)) (pairs : List (List ℕ × Lis
 -- no fault is found exactly where the names and pairs make a lattice
 abbrev pub IsExactFault : Type 0
 IsExactFault = (names : List (List ℕ)) (pairs : List (List ℕ × List ℕ)) → (first_fault names pairs ≡ None) ↔ MakesLattice names pairs
+
+-- two labels pass the test for a join exactly where there is a least label that both flow to
+abbrev pub IsExactJoin : Type 0
+IsExactJoin = (n : ℕ) (f : ℕ → ℕ → Bool) (a b : ℕ) → IsTrue (has_join n f a b) ↔ ((j : ℕ) × (j < n) × IsJoin n f a b j)
+
+-- and the test for a meet exactly where there is a greatest label that flows to both
+abbrev pub IsExactMeet : Type 0
+IsExactMeet = (n : ℕ) (f : ℕ → ℕ → Bool) (a b : ℕ) → IsTrue (has_meet n f a b) ↔ ((m : ℕ) × (m < n) × IsMeet n f a b m)

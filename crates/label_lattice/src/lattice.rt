@@ -38,9 +38,10 @@ impl Model for Lattice {
 
 impl Lattice {
     /// The lattice of these names in which a label flows to itself and to what it reaches by the pairs, which are of
-    /// names. The first fault is the answer where they make none, in the order of the variants: but a bad name at a
-    /// position stands before a repeated one at a later position, and a cycle, a missing join or a missing meet is
-    /// that of the first two labels in the order of the first, and then of the second.
+    /// names. Where they make none, the first fault is the answer, in the order of the variants, with two exceptions:
+    /// the names are taken position by position, so a repeated name stands before a bad one at a later position; and a
+    /// cycle, a missing join or a missing meet is that of the first two labels in the order of the first, and then of
+    /// the second.
     pub fn build(
         alloc: Global,
         names: &[Bytes],

@@ -2,7 +2,9 @@
 #![tactic(auto)]
 
 mod limits;
+mod meter;
 #[cfg(test)]
 mod tests;
 
 pub use limits::{LimitError, Limits};
+pub use meter::{Count, Meter};

@@ -1,6 +1,8 @@
 //! What no clause says: the defaults, and the ends of the ranges.
 
-use crate::{LimitError, Limits};
+use crate::{LimitError, Limits, Meter};
+use label_lattice::Label;
+use std::test::Fail;
 
 #[test]
 fn the_ends_of_the_ranges_are_in_them(rt: HostRuntime) {
@@ -80,4 +82,25 @@ fn the_first_number_outside_its_range_is_named(rt: HostRuntime) {
             Err(LimitError::OutOfRange(which))
         );
     }
+}
+
+#[test]
+fn the_facets_of_a_label_are_counted_against_its_limits(rt: HostRuntime) -> Result<(), Fail> {
+    let mut low = Limits::usual();
+    low.facets = 2;
+    low.bytes = 5;
+    let limits = [low, Limits::usual()];
+    let mut meter = Meter::new(rt.alloc(), &limits)?;
+    let (low, alice) = (Label::numbered(0), Label::numbered(1));
+    assert!(rt; meter.fits(low, None, 5));
+    assert!(rt; !meter.fits(low, None, 6));
+    meter.charge(low, None, 3);
+    assert!(rt; !meter.fits(low, None, 3));
+    assert!(rt; meter.fits(low, Some(3), 5));
+    assert!(rt; meter.fits(low, None, 2));
+    meter.charge(low, None, 2);
+    assert!(rt; !meter.fits(low, None, 0));
+    assert!(rt; meter.fits(low, Some(2), 0));
+    assert!(rt; meter.fits(alice, None, 6));
+    Ok(())
 }

@@ -2,7 +2,7 @@ use Rattle.std.proofs.Common.{◌≡◌, ℕ, List, [], ◌∷◌, ◌++◌, Non
 use Rattle.std.specs.Cmp.Lexicographic.{pointwise, bytes_decides}
 use Rattle.labelled_channel.specs.Delivering.{channel_of}
 use Rattle.labelled_channel.specs.declared.channels.Channel.{Channel}
-use Rattle.labelled_channel.proofs.Tables.{insert_fresh, held_apart}
+use Rattle.label_lattice.proofs.Tables.{insert_fresh, held_apart}
 use Rattle.labelled_channel.proofs.channels.Channels.add.Goals as goal
 use Rattle.labelled_channel.proofs.channels.Channels.add.Goals.{in-Ok-insert, in-Err}
 

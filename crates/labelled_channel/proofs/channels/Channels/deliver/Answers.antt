@@ -6,7 +6,7 @@ use Rattle.label_lattice.specs.Order.{count}
 use Rattle.labelled_channel.specs.Delivering.{channel_of, delivered}
 use Rattle.labelled_channel.specs.declared.channels.Channel.{Channel}
 use Rattle.labelled_channel.specs.declared.channels.Delivery.TheVariants.{Start, Vanishes}
-use Rattle.labelled_channel.proofs.Tables.{lookup_held, lookup_all}
+use Rattle.label_lattice.proofs.Tables.{lookup_held, lookup_all}
 use Rattle.labelled_channel.proofs.channels.Channels.deliver.Goals as goal
 
 pub returns-in_default-clause-delivered : goal.returns-in_default-clause-delivered
