@@ -42,7 +42,7 @@ eq_then Greater b = refl
 eq_nat : (x y : ℕ) → is_eq (nat_cmp x y) ≡ (y == x)
 eq_nat x y = grind (arith, nat_tests)
 
-ties : (q : Slot) (key : List ℕ) (l : ℕ) → eq_by_cmp slot_cmp q (key, l) ≡ (pointwise nat_eq q.0 key && (l == q.1))
+pub ties : (q : Slot) (key : List ℕ) (l : ℕ) → eq_by_cmp slot_cmp q (key, l) ≡ (pointwise nat_eq q.0 key && (l == q.1))
 ties q key l = eq_then (slice_cmp nat_cmp q.0 key) (nat_cmp q.1 l) ∙ ap (λ b. b && is_eq (nat_cmp q.1 l)) (sym (texts_ties q.0 key)) ∙ ap (λ b. pointwise nat_eq q.0 key && b) (eq_nat q.1 l)
 
 pub facet_at-after : (rows : Rows) (x : Write) (q : Slot) → facet_at (rows_after rows x) q ≡ cond (eq_by_cmp slot_cmp q (x.key, x.label)) (Some x.value) (facet_at rows q)
@@ -73,7 +73,3 @@ find_facets w q = find_from w [] finite.empty (λ q. sym (ap (λ o. member q.1 (
 -- a list in order that has the facets of the rows is the facets
 pub facets_unique : (w : List Write) (fs : List Facet) → T (is_sorted slot_cmp fs) → ((q : Slot) → find slot_cmp q fs ≡ facet_at (rows_of w) q) → fs ≡ facets w
 facets_unique w fs sorted h = same_entries slot_cmp slots_total exact_slot fs (facets w) sorted (facets_sorted w) (λ q. h q ∙ sym (find_facets w q))
-
--- writes with the same rows have the same facets
-pub facets_same : (w v : List Write) → rows_of w ≡ rows_of v → facets w ≡ facets v
-facets_same w v is = facets_unique v (facets w) (facets_sorted w) (λ q. find_facets w q ∙ ap (λ r. facet_at r q) is)

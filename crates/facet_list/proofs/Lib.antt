@@ -1,7 +1,10 @@
+pub mod Truths
 pub mod Slots
 pub mod RowLaws
 pub mod FacetLaws
-pub mod Walks
+pub mod RowFacets
+pub mod LiveFacets
+pub mod FacetsLeft
 pub mod Scans
 pub mod Sizes
 pub mod Tallies

@@ -23,7 +23,7 @@ last_value-push found [] v = refl
 last_value-push found (u ∷ vs) v = last_value-push u vs v
 
 -- the last value of those that pass, after one more
-kept-push : {A : Type 0} (p : A → Bool) (value : A → Option (List ℕ)) (found : Option (List ℕ)) (xs : List A) (x : A)
+pub kept-push : {A : Type 0} (p : A → Bool) (value : A → Option (List ℕ)) (found : Option (List ℕ)) (xs : List A) (x : A)
     → last_value found (map value (filter p (xs ++ x ∷ []))) ≡ (if p x then value x else last_value found (map value (filter p xs)))
 kept-push p value found xs x = ap (λ ys. last_value found (map value ys)) (filter-append p xs (x ∷ []))
     ∙ elim (p x) as (λ b. last_value found (map value (filter p xs ++ cond b (x ∷ []) [])) ≡ cond b (value x) (last_value found (map value (filter p xs)))) [

@@ -7,8 +7,8 @@ use Rattle.std.specs.Ordering.{eq_by_cmp, is_eq, ordering_reverse}
 use Rattle.std.specs.Cmp.{tied_itself}
 use Rattle.facet_list.specs.Store.{Slot, Facet, slot_cmp, Write}
 use Rattle.facet_list.specs.Rows.{Rows, rows_of, rows_after, facet_at, member, key_cmp}
-use Rattle.facet_list.specs.Walk.{IsAfter, IsLeast}
-use Rattle.facet_list.specs.Kept.{is_chosen, chosen}
+use Rattle.facet_list.specs.Walk.{is_after}
+use Rattle.facet_list.specs.Kept.{is_chosen, chosen, IsLeast}
 use Rattle.label_lattice.specs.declared.label.Label.{Label}
 use Rattle.std.proofs.lemmas.List.{append-nil}
 use Rattle.std.proofs.lemmas.List.Elements.{filter-append}
@@ -32,13 +32,16 @@ itself rows x = facet_at-after rows x (slot x) ∙ ap (λ r. cond (is_eq r) (Som
 differs : (t s : Slot) → slot_cmp t s ≡ Less → t ≢ s
 differs t s l e = let k : slot_cmp s s ≡ Less = subst (λ (z : Slot). slot_cmp z s ≡ Less) e l in let m = tied_itself slots_total s in cc
 
+apart : (after : Option Slot) (x : Write) (t : Slot) → is_after after (slot x) ≡ false → is_after after t ≡ true → t ≢ slot x
+apart after x t n a e = let k = ap (is_after after) e in cc
+
 -- a write whose slot does not come after
-pub skipped : (rows : Rows) (after : Option Slot) (best : Option (Slot × Option (List ℕ))) (x : Write) → ¬ IsAfter after (slot x) → IsLeast rows after best → IsLeast (rows_after rows x) after best
-skipped rows after None x n h = λ t a. untouched rows x t (λ e. n (subst (IsAfter after) e a)) ∙ h t a
+pub skipped : (rows : Rows) (after : Option Slot) (best : Option (Slot × Option (List ℕ))) (x : Write) → is_after after (slot x) ≡ false → IsLeast rows after best → IsLeast (rows_after rows x) after best
+skipped rows after None x n h = λ t a. untouched rows x t (apart after x t n a) ∙ h t a
 skipped rows after (Some b) x n h = record {
   later = h.later;
-  here = untouched rows x b.0 (λ e. n (subst (IsAfter after) e h.later)) ∙ h.here;
-  least = λ t a l. untouched rows x t (λ e. n (subst (IsAfter after) e a)) ∙ h.least t a l;
+  here = untouched rows x b.0 (apart after x b.0 n h.later) ∙ h.here;
+  least = λ t a l. untouched rows x t (apart after x t n a) ∙ h.least t a l;
 }
 
 -- a write whose slot comes after the best one
@@ -50,7 +53,7 @@ passed rows after b x l h = record {
 }
 
 -- a write that is the first
-pub begun : (rows : Rows) (after : Option Slot) (x : Write) → IsAfter after (slot x) → IsLeast rows after None → IsLeast (rows_after rows x) after (Some (slot x, x.value))
+pub begun : (rows : Rows) (after : Option Slot) (x : Write) → is_after after (slot x) ≡ true → IsLeast rows after None → IsLeast (rows_after rows x) after (Some (slot x, x.value))
 begun rows after x a h = record {
   later = a;
   here = itself rows x;
@@ -58,7 +61,7 @@ begun rows after x a h = record {
 }
 
 -- a write that is no later than the best one
-pub replaced : (rows : Rows) (after : Option Slot) (b : Slot × Option (List ℕ)) (x : Write) → IsAfter after (slot x) → slot_cmp b.0 (slot x) ≢ Less → IsLeast rows after (Some b) → IsLeast (rows_after rows x) after (Some (slot x, x.value))
+pub replaced : (rows : Rows) (after : Option Slot) (b : Slot × Option (List ℕ)) (x : Write) → is_after after (slot x) ≡ true → slot_cmp b.0 (slot x) ≢ Less → IsLeast rows after (Some b) → IsLeast (rows_after rows x) after (Some (slot x, x.value))
 replaced rows after b x a n h = record {
   later = a;
   here = itself rows x;
@@ -73,7 +76,7 @@ replaced rows after b x a n h = record {
     ] refl
 
 -- a write that comes before the least one so far or takes its place
-pub takes : (rows : Rows) (after : Option Slot) (least : Option Facet) (x : Write) → IfSome least (λ f. slot_cmp f.0 (slot x) ≢ Less) → IsAfter after (slot x) → IsLeast rows after least → IsLeast (rows_after rows x) after (Some (slot x, x.value))
+pub takes : (rows : Rows) (after : Option Slot) (least : Option Facet) (x : Write) → IfSome least (λ f. slot_cmp f.0 (slot x) ≢ Less) → is_after after (slot x) ≡ true → IsLeast rows after least → IsLeast (rows_after rows x) after (Some (slot x, x.value))
 takes rows after None x n a h = begun rows after x a h
 takes rows after (Some f) x n a h = replaced rows after f x a n h
 
@@ -92,7 +95,7 @@ chosen_all (x ∷ w) = ap (λ v. x ∷ v) (chosen_all w)
 pub left_out : (only : Option Label) (w : List Write) (x : Write) (after : Option Slot) (least : Option Facet) → is_chosen only x ≡ false → IsLeast (rows_of (chosen only w)) after least → IsLeast (rows_of (chosen only (w ++ x ∷ []))) after least
 left_out only w x after least e h = subst (λ (r : Rows). IsLeast r after least) (sym (chosen_out only w x e)) h
 
-pub not_after : (only : Option Label) (w : List Write) (x : Write) (after : Option Slot) (least : Option Facet) → is_chosen only x ≡ true → ¬ IsAfter after (slot x) → IsLeast (rows_of (chosen only w)) after least → IsLeast (rows_of (chosen only (w ++ x ∷ []))) after least
+pub not_after : (only : Option Label) (w : List Write) (x : Write) (after : Option Slot) (least : Option Facet) → is_chosen only x ≡ true → is_after after (slot x) ≡ false → IsLeast (rows_of (chosen only w)) after least → IsLeast (rows_of (chosen only (w ++ x ∷ []))) after least
 not_after only w x after least e n h = subst (λ (r : Rows). IsLeast r after least) (sym (chosen_in only w x e)) (skipped (rows_of (chosen only w)) after least x n h)
 
 -- one more write whose facet is greater than the least one
@@ -100,7 +103,7 @@ pub not_lesser : (only : Option Label) (w : List Write) (x : Write) (after : Opt
 not_lesser only w x after f e l h = subst (λ (r : Rows). IsLeast r after (Some f)) (sym (chosen_in only w x e)) (passed (rows_of (chosen only w)) after f x l h)
 
 -- one more write whose facet is the least now
-pub lesser : (only : Option Label) (w : List Write) (x : Write) (after : Option Slot) (least : Option Facet) → is_chosen only x ≡ true → IsAfter after (slot x) → IfSome least (λ f. slot_cmp f.0 (slot x) ≢ Less) → IsLeast (rows_of (chosen only w)) after least → IsLeast (rows_of (chosen only (w ++ x ∷ []))) after (Some (slot x, x.value))
+pub lesser : (only : Option Label) (w : List Write) (x : Write) (after : Option Slot) (least : Option Facet) → is_chosen only x ≡ true → is_after after (slot x) ≡ true → IfSome least (λ f. slot_cmp f.0 (slot x) ≢ Less) → IsLeast (rows_of (chosen only w)) after least → IsLeast (rows_of (chosen only (w ++ x ∷ []))) after (Some (slot x, x.value))
 lesser only w x after least e a n h = subst (λ (r : Rows). IsLeast r after (Some (slot x, x.value))) (sym (chosen_in only w x e)) (takes (rows_of (chosen only w)) after least x n a h)
 
 -- no write, no facet

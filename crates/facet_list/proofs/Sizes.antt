@@ -18,13 +18,13 @@ use Rattle.facet_list.proofs.Slots.{slots_total}
 use Rattle.facet_list.proofs.RowLaws.{row_of-after, rows_of-push}
 use Rattle.facet_list.proofs.FacetLaws.{facet_at-after}
 
-abbrev Differ : Member → Member → Type 0
+abbrev pub Differ : Member → Member → Type 0
 Differ m n = m.0 ≢ n.0
 
 others : (l : ℕ) (row : Row) → All (λ (m : Member). m.0 ≢ l) (filter (λ (m : Member). not (m.0 == l)) row)
 others l row = All-weaker (λ (m : Member). not (m.0 == l) ≡ true) (λ (m : Member). m.0 ≢ l) (λ m p e. let k : (m.0 == l) ≡ true = (Decides-eqb m.0 l).1 e in cc) _ (filter_passes (λ (m : Member). not (m.0 == l)) row)
 
-once_after : (l : ℕ) (v : Option (List ℕ)) (row : Row) → AllPairs Differ row → AllPairs Differ (row_after l v row)
+pub once_after : (l : ℕ) (v : Option (List ℕ)) (row : Row) → AllPairs Differ row → AllPairs Differ (row_after l v row)
 once_after l v row h = all_pairs_push Differ (filter (λ (m : Member). not (m.0 == l)) row) (l, v) (AllPairs-filter Differ (λ (m : Member). not (m.0 == l)) row h)
     (λ k d lt. All-get_or (λ (m : Member). m.0 ≢ l) _ k d lt (others l row))
 

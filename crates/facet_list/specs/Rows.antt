@@ -1,11 +1,11 @@
 -- A store as its callers see it: a row for each key.
-use Rattle.std.specs.Prelude.{◌≡◌, ◌≢◌, ◌<◌, ◌≤◌, ℕ, Bool, not, ◌==◌, List, [], ◌∷◌, ◌++◌, Option, Some, None, filter, map, length, unwrap_or, if◌then◌else◌, All}
-use Rattle.std.specs.List.{AllPairs}
+use Rattle.std.specs.Prelude.{◌≢◌, ◌<◌, ◌≤◌, ℕ, Bool, not, ◌==◌, List, [], ◌∷◌, ◌++◌, Option, Some, None, filter, map, length, unwrap_or, if◌then◌else◌, All}
+use Rattle.std.specs.List.{AllPairs, flat_map}
 use Rattle.std.specs.declared.cmp.Ordering.{Ordering}
 use Rattle.std.specs.Ordering.{nat_cmp}
 use Rattle.std.specs.Cmp.Lexicographic.{slice_cmp}
 use Rattle.std.specs.FinMap as finite
-use Rattle.facet_list.specs.Store.{Write, Slot, last_value}
+use Rattle.facet_list.specs.Store.{Write, Slot, Facet, slot_cmp, last_value}
 
 -- a label and its value or absent
 abbrev pub Member : Type 0
@@ -54,6 +54,14 @@ member l (m ∷ row) = if m.0 == l then Some m.1 else member l row
 abbrev pub facet_at : Rows → Slot → Option (Option (List ℕ))
 facet_at rows s = member s.1 (row_of rows s.0)
 
+-- the facets of a key with its row
+abbrev pub facets_of : List ℕ × Row → List Facet
+facets_of e = map (λ m. ((e.0, m.0), m.1)) e.1
+
+-- the live facets of the rows, by key in byte order and then by label
+abbrev pub facets_in : Rows → List Facet
+facets_in rows = finite.entries (finite.from_entries {R = slot_cmp} (flat_map facets_of (finite.entries rows)))
+
 -- a key has at most 1,024 bytes
 abbrev pub IsKey : List ℕ → Type 0
 IsKey key = length key ≤ 1024
@@ -84,8 +92,3 @@ pub record IsStore (n : ℕ) (rows : Rows) : Type 0 where
   pub once : (key : List ℕ) → AllPairs (λ m n. m.0 ≢ n.0) (row_of rows key)
   -- each label has its limits
   pub below : AreBelow n rows
-
--- writes of which the rows are
-pub record AreWritten (rows : Rows) : Type 0 where
-  pub writes : List Write
-  pub written : rows ≡ rows_of writes

@@ -1,5 +1,6 @@
 -- A store as the list of its writes: what is read of it, and its live facets.
-use Rattle.std.specs.Prelude.{ℕ, Bool, ◌&&◌, List, [], ◌∷◌, Option, None, filter, map, nat_eq}
+use Rattle.std.specs.Prelude.{ℕ, Bool, ◌&&◌, ◌==◌, List, [], ◌∷◌, Option, None, filter, map, nat_eq}
+use Rattle.std.specs.List.{last_or}
 use Rattle.std.specs.declared.cmp.Ordering.{Ordering}
 use Rattle.std.specs.Ordering.{nat_cmp, ordering_then}
 use Rattle.std.specs.Cmp.Lexicographic.{slice_cmp, pointwise}
@@ -10,6 +11,10 @@ pub record Write : Type 0 where
   pub label : ℕ
   pub key : List ℕ
   pub value : Option (List ℕ)
+
+-- the write of a key and a value or absent at a label
+abbrev pub written : ℕ → List ℕ → Option (List ℕ) → Write
+written label key value = record { label = label; key = key; value = value }
 
 -- the last of the values, or else the one found before them
 abbrev pub last_value : Option (List ℕ) → List (Option (List ℕ)) → Option (List ℕ)
@@ -27,6 +32,14 @@ read flows c key w = last_value None (map (λ x. x.value) (readable flows c key 
 -- a key and a label
 abbrev pub Slot : Type 0
 Slot = List ℕ × ℕ
+
+-- the writes of a key at exactly this label
+abbrev pub written_at : Slot → List Write → List Write
+written_at s w = filter (λ x. pointwise nat_eq s.0 x.key && x.label == s.1) w
+
+-- the last write of a key at a label: its value, or absent, or None where there is none
+abbrev pub last_at : Slot → List Write → Option (Option (List ℕ))
+last_at s w = last_or None (map (λ x. x.value) (written_at s w))
 
 -- the order of slots: by key in byte order, then by label
 abbrev pub slot_cmp : Slot → Slot → Ordering

@@ -1,13 +1,13 @@
 //! What a store of facets is.
 
-ghost use Rattle.std.specs.Prelude.{◌≡◌, ◌<◌, Ok, List, length, IfOk, OnErr, MatchOption, IfSome, if◌then◌else◌};
+ghost use Rattle.std.specs.Prelude.{◌≡◌, ◌<◌, Ok, List, length, option_map, IfOk, OnErr, IfSome, if◌then◌else◌};
 ghost use Rattle.std.specs.Option.{option_copied};
 ghost use Rattle.label_lattice.specs.Order.{flows, count};
 ghost use Rattle.label_limits.specs.declared.limits.Limits.{Limits as LabelLimits};
-ghost use Rattle.facet_list.specs.Store.{Write};
-ghost use Rattle.facet_list.specs.Rows.{Rows, row_of, rows_of, rows_after, read_row, IsKey, IsValue, IsSized, IsStore, AreWritten};
-ghost use Rattle.facet_list.specs.Room.{fits};
-ghost use Rattle.facet_list.specs.Walk.{slot_after, NoneAfter, IsNext};
+ghost use Rattle.facet_list.specs.Store.{written};
+ghost use Rattle.facet_list.specs.Rows.{Rows, row_of, rows_after, read_row, IsKey, IsValue, IsSized, IsStore};
+ghost use Rattle.facet_list.specs.Room.{fits_in};
+ghost use Rattle.facet_list.specs.Walk.{slot_after, facet_lent, IsNext};
 
 use label_lattice::{Label, Lattice};
 use trapeze_io::NoMemory;
@@ -43,9 +43,9 @@ pub trait Facets: Drop {
         requires at { at.number < length (limits self.old) }
         requires key { IsKey key.now }
         requires value { IsValue (option_copied value) }
-        ensures fits { (w : List Write) → rows self.old ≡ rows_of w →
-            IfOk result (λ wrote. wrote ≡ (if fits (limits self.old) w (record { label = at.number; key = key.now; value = option_copied value.entry }) then Wrote.Done else Wrote.Full)) }
-        ensures done { result ≡ Ok Wrote.Done → rows self.new ≡ rows_after (rows self.old) (record { label = at.number; key = key.now; value = option_copied value.entry }) }
+        ensures fits { IfOk result (λ wrote.
+            wrote ≡ (if fits_in (limits self.old) (rows self.old) (written at.number key.now (option_copied value.entry)) then Wrote.Done else Wrote.Full)) }
+        ensures done { result ≡ Ok Wrote.Done → rows self.new ≡ rows_after (rows self.old) (written at.number key.now (option_copied value.entry)) }
         ensures full { result ≡ Ok Wrote.Full → rows self.new ≡ rows self.old }
         ensures no_memory { OnErr result (rows self.new ≡ rows self.old) }
         ensures limits { limits self.new ≡ limits self.old };
@@ -55,14 +55,10 @@ pub trait Facets: Drop {
         &self,
         after: Option<(&Vec<u8>, Label)>,
     ) -> Option<(&Vec<u8>, Label, Option<&[u8]>)>
-        ensures next { MatchOption result (NoneAfter (rows self.now) (slot_after after.entry))
-            (λ f. IsNext (rows self.now) (slot_after after.entry) (f.0.now.items, f.1.number) (option_copied f.2)) }
+        ensures next { IsNext (rows self.now) (slot_after after.entry) (option_map facet_lent result) }
         ensures sized { IfSome result (λ f. IsSized f.0.now.items (option_copied f.2)) }
         ensures label { IfSome result (λ f. f.1.number < length (limits self.now)) };
 
     /// Keys and values are within their sizes, a row has at most one facet of a label, and each label has its limits.
     ghost store: { (s : Self) → IsStore (length (limits s)) (rows s) };
-
-    /// The rows are those of some writes.
-    ghost made: { (s : Self) → AreWritten (rows s) };
 }

@@ -2,8 +2,9 @@
 
 ghost use Rattle.std.specs.Prelude.{◌≡◌, ℕ, Bool, List, T};
 ghost use Rattle.std.specs.FinMap.{find, is_sorted};
-ghost use Rattle.facet_list.specs.Store.{Write, Slot, Facet, slot_cmp, read, facets};
-ghost use Rattle.facet_list.specs.Rows.{row_of, rows_of, read_row, facet_at};
+ghost use Rattle.facet_list.specs.Store.{Write, Slot, Facet, slot_cmp, read, last_at, facets};
+ghost use Rattle.facet_list.specs.Rows.{Rows, row_of, rows_of, read_row, facet_at, facets_in};
+ghost use Rattle.facet_list.specs.Room.{fits_in, fits};
 ghost use Rattle.label_limits.specs.declared.limits.Limits.{Limits as LabelLimits};
 ghost use Rattle.facet_list.specs.Puts.{AreNoninterferingPuts};
 ghost use Rattle.facet_list.specs.Views.{AreNoninterfering, AreNoninterferingFrom};
@@ -13,12 +14,23 @@ pub fn rows_tell_reads()
     ensures { (flows : ℕ → ℕ → Bool) (c : ℕ) (key : List ℕ) (w : List Write) → read_row flows c (row_of (rows_of w) key) ≡ read flows c key w }
 {}
 
-/// The facets of the rows of writes, in order, are the facets of the writes.
+/// The facets of rows are in order, each once, and the list of them is the only such list.
+pub fn facets_of_rows()
+    ensures sorted { (rows : Rows) → T (is_sorted slot_cmp (facets_in rows)) }
+    ensures found { (rows : Rows) (s : Slot) → find slot_cmp s (facets_in rows) ≡ facet_at rows s }
+    ensures whole { (rows : Rows) (fs : List Facet) → T (is_sorted slot_cmp fs) → ((s : Slot) → find slot_cmp s fs ≡ facet_at rows s) → fs ≡ facets_in rows }
+{}
+
+/// For each key and label the facet that the rows of writes have is the last write of the key at that label, and their facets are
+/// those of the writes.
 pub fn rows_tell_facets()
-    ensures sorted { (w : List Write) → T (is_sorted slot_cmp (facets w)) }
-    ensures found { (w : List Write) (s : Slot) → find slot_cmp s (facets w) ≡ facet_at (rows_of w) s }
-    ensures whole { (w : List Write) (fs : List Facet) → T (is_sorted slot_cmp fs) → ((s : Slot) → find slot_cmp s fs ≡ facet_at (rows_of w) s) → fs ≡ facets w }
-    ensures same { (w v : List Write) → rows_of w ≡ rows_of v → facets w ≡ facets v }
+    ensures last { (w : List Write) (s : Slot) → facet_at (rows_of w) s ≡ last_at s w }
+    ensures facets { (w : List Write) → facets_in (rows_of w) ≡ facets w }
+{}
+
+/// Whether a write fits after other writes depends on their rows alone.
+pub fn rows_tell_fits()
+    ensures { (limits : List LabelLimits) (w : List Write) (x : Write) → fits_in limits (rows_of w) x ≡ fits limits w x }
 {}
 
 /// What an observer sees of the facets is what the writes that he sees leave.

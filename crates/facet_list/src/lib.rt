@@ -13,6 +13,7 @@ mod write;
 
 pub use facets::{Facets, Wrote};
 pub use laws::{
-    noninterference_of_facets, noninterference_of_puts, rows_tell_facets, rows_tell_reads,
+    facets_of_rows, noninterference_of_facets, noninterference_of_puts, rows_tell_facets,
+    rows_tell_fits, rows_tell_reads,
 };
 pub use list::FacetList;

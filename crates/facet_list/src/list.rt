@@ -1,6 +1,6 @@
 //! The list of writes.
 
-ghost use Rattle.std.specs.Prelude.{◌≡◌, refl, length, IfOk};
+ghost use Rattle.std.specs.Prelude.{◌≡◌, length, IfOk};
 ghost use Rattle.std.specs.FinMap as finite;
 ghost use Rattle.facet_list.specs.Rows.{rows_of, IsStore};
 
@@ -46,8 +46,6 @@ impl Facets for FacetList {
     ghost limits = { λ s. s.limits.items };
 
     ghost store = { λ s. s.sound };
-
-    ghost made = { λ s. record { writes = s.writes.items; written = refl } };
 
     fn read(&self, lattice: &Lattice, at: Label, key: &[u8]) -> Option<&[u8]> {
         let mut found = None;

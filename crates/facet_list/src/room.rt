@@ -1,8 +1,10 @@
 //! Whether a write fits.
 
-ghost use Rattle.std.specs.Prelude.{◌≡◌, ◌-◌, ◌^◌, ◌∷◌, ◌++◌, ◌&&◌, ℕ, [], Some, min, nat_le};
+ghost use Rattle.std.specs.Prelude.{◌≡◌, ◌-◌, ◌^◌, ◌&&◌, ℕ, Some, min, nat_le};
 ghost use Rattle.std.specs.Option.{option_copied};
-ghost use Rattle.facet_list.specs.Room.{live, size, is_within};
+ghost use Rattle.facet_list.specs.Store.{written};
+ghost use Rattle.facet_list.specs.Rows.{rows_of, rows_after};
+ghost use Rattle.facet_list.specs.Room.{live_in, is_within};
 
 use crate::scan::next;
 use crate::write::{Write, size_of};
@@ -17,15 +19,12 @@ pub(crate) fn fits(
     key: &[u8],
     value: Option<&[u8]>,
 ) -> bool
-    ensures { result ≡ is_within (Some limits) (live at.number (writes.now ++ record { label = at.number; key = key.now; value = option_copied value.entry } ∷ [])) }
+    ensures { result ≡ is_within (Some limits) (live_in at.number (rows_after (rows_of writes.now) (written at.number key.now (option_copied value.entry)))) }
 {
     let mut count: u64 = 1;
     let mut bytes = size_of(key, value);
     let mut after = None;
-    'facets: for _ in 0..writes.len() {
-        let Some(write) = next(writes, Some(at), after) else {
-            return is_room(limits, count, bytes);
-        };
+    'facets: while let Some(write) = next(writes, Some(at), after) {
         if !write.is_of(at, key) {
             count = count.saturating_add(1);
             bytes = bytes.saturating_add(write.size());

@@ -3,8 +3,8 @@
 ghost use Rattle.std.specs.Prelude.{◌≡◌, ◌∷◌, ◌++◌, [], List, option_map};
 ghost use Rattle.facet_list.specs.Store.{Write as Written};
 ghost use Rattle.facet_list.specs.Rows.{rows_of};
-ghost use Rattle.facet_list.specs.Walk.{slot_after, IsLeast};
-ghost use Rattle.facet_list.specs.Kept.{is_chosen, chosen, facet_of};
+ghost use Rattle.facet_list.specs.Walk.{slot_after};
+ghost use Rattle.facet_list.specs.Kept.{is_chosen, chosen, facet_of, IsLeast};
 
 use crate::write::Write;
 use label_lattice::Label;

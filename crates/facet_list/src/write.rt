@@ -6,9 +6,9 @@ ghost use Rattle.std.specs.Cmp.Lexicographic.{pointwise};
 ghost use Rattle.std.specs.declared.cmp.Ordering.TheVariants.{Less};
 ghost use Rattle.label_lattice.specs.Order.{flows, count};
 ghost use Rattle.std.specs.Ordering.{is_eq};
-ghost use Rattle.facet_list.specs.Store.{slot_cmp};
+ghost use Rattle.facet_list.specs.Store.{slot_cmp, written};
 ghost use Rattle.facet_list.specs.Room.{size};
-ghost use Rattle.facet_list.specs.Walk.{slot_after, IsAfter};
+ghost use Rattle.facet_list.specs.Walk.{slot_after, is_after};
 
 use label_lattice::{Label, Lattice};
 use std::alloc::{AllocError, Global};
@@ -40,7 +40,7 @@ impl Write {
         key: &[u8],
         value: Option<&[u8]>,
     ) -> Result<Write, AllocError>
-        ensures { IfOk result (λ w. w ≡ record { label = label.number; key = key.now; value = option_copied value.entry }) }
+        ensures { IfOk result (λ w. w ≡ written label.number key.now (option_copied value.entry)) }
     {
         let key = Vec::from_slice(alloc, key)?;
         let value = match value {
@@ -99,7 +99,7 @@ impl Write {
 
     /// Whether the write's facet is greater than one.
     pub fn is_after(&self, after: Option<(&Vec<u8>, Label)>) -> bool
-        ensures { MatchBool result (IsAfter (slot_after after.entry) (self.now.key, self.now.label)) (¬ IsAfter (slot_after after.entry) (self.now.key, self.now.label)) }
+        ensures { result ≡ is_after (slot_after after.entry) (self.now.key, self.now.label) }
     {
         match after {
             Some((key, label)) => { compare(key, label, &self.key, self.label) == Ordering::Less }

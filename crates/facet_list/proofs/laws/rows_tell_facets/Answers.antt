@@ -1,14 +1,8 @@
-use Rattle.facet_list.proofs.FacetLaws.{facets_sorted, find_facets, facets_unique, facets_same}
+use Rattle.facet_list.proofs.RowFacets.{last_of, facets_in_of}
 use Rattle.facet_list.proofs.laws.rows_tell_facets.Goals as goal
 
-pub returns-clause-sorted : goal.returns-clause-sorted
-returns-clause-sorted c = facets_sorted
+pub returns-clause-last : goal.returns-clause-last
+returns-clause-last c = last_of
 
-pub returns-clause-found : goal.returns-clause-found
-returns-clause-found c = find_facets
-
-pub returns-clause-whole : goal.returns-clause-whole
-returns-clause-whole c = facets_unique
-
-pub returns-clause-same : goal.returns-clause-same
-returns-clause-same c = facets_same
+pub returns-clause-facets : goal.returns-clause-facets
+returns-clause-facets c = facets_in_of

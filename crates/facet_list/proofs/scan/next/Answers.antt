@@ -2,8 +2,8 @@ use Rattle.std.proofs.Common.{sym, subst, take, List}
 use Rattle.std.specs.Prelude.{option_map}
 use Rattle.facet_list.specs.Store.{Write}
 use Rattle.facet_list.specs.Rows.{rows_of}
-use Rattle.facet_list.specs.Walk.{slot_after, IsLeast}
-use Rattle.facet_list.specs.Kept.{chosen, facet_of}
+use Rattle.facet_list.specs.Walk.{slot_after}
+use Rattle.facet_list.specs.Kept.{chosen, facet_of, IsLeast}
 use Rattle.facet_list.proofs.RowLaws.{more}
 use Rattle.facet_list.proofs.Scans.{none_least}
 use Rattle.facet_list.proofs.scan.next.Goals as goal

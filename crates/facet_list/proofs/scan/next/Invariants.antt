@@ -1,8 +1,8 @@
 use Rattle.std.proofs.Common.{take}
 use Rattle.std.specs.Prelude.{option_map}
 use Rattle.facet_list.specs.Rows.{rows_of}
-use Rattle.facet_list.specs.Walk.{slot_after, IsLeast}
-use Rattle.facet_list.specs.Kept.{chosen, facet_of}
+use Rattle.facet_list.specs.Walk.{slot_after}
+use Rattle.facet_list.specs.Kept.{chosen, facet_of, IsLeast}
 use Rattle.facet_list.proofs.scan.next.Given as goal
 
 -- the least of the writes so far

@@ -2,7 +2,7 @@ use Rattle.std.proofs.Common.{◌∙◌, ◌<◌, sym, ap, subst, ◌++◌, ◌�
 use Rattle.std.specs.Prelude.{is_ok}
 use Rattle.std.specs.Option.{option_copied}
 use Rattle.facet_list.specs.declared.facets.Wrote.TheVariants as Wrote
-use Rattle.facet_list.specs.Store.{Write}
+use Rattle.facet_list.specs.Store.{Write, written}
 use Rattle.facet_list.specs.Rows.{rows_of, IsStore, IsSized}
 use Rattle.facet_list.proofs.RowLaws.{rows_of-push}
 use Rattle.facet_list.proofs.Sizes.{store_push}
@@ -20,14 +20,14 @@ invariant_of-self c =
 
 pub returns-clause-done : goal.returns-clause-done
 returns-clause-done c = λ e. ap rows_of c.in-Ok-push.ensures.items ∙ ap (λ x. rows_of (c.args.self.now.writes.items ++ x ∷ [])) c.in-Ok.ensures
-    ∙ rows_of-push c.args.self.now.writes.items (record { label = c.args.at.number; key = c.args.key.now; value = option_copied c.args.value })
+    ∙ rows_of-push c.args.self.now.writes.items (written c.args.at.number c.args.key.now (option_copied c.args.value))
 
 pub returns-then-not-fits-clause-fits : goal.returns-then-not-fits-clause-fits
-returns-then-not-fits-clause-fits c = λ w e. sym (ap (λ b. cond b Wrote.Done Wrote.Full)
-    (fits_told c.args.self.now.limits.items c.args.self.now.writes.items w c.deref.result.now (record { label = c.args.at.number; key = c.args.key.now; value = option_copied c.args.value })
-    c.index-limits.result.now c.number.result c.fits.result c.number.ensures c.requires.at c.index-limits.ensures c.deref.ensures.value e c.fits.ensures ∙ c.if-not-fits.true))
+returns-then-not-fits-clause-fits c = sym (ap (λ b. cond b Wrote.Done Wrote.Full)
+    (fits_told c.args.self.now.limits.items c.args.self.now.writes.items c.deref.result.now (written c.args.at.number c.args.key.now (option_copied c.args.value))
+    c.index-limits.result.now c.number.result c.fits.result c.number.ensures c.requires.at c.index-limits.ensures c.deref.ensures.value c.fits.ensures ∙ c.if-not-fits.true))
 
 pub returns-clause-fits : goal.returns-clause-fits
-returns-clause-fits c = λ w e. sym (ap (λ b. cond b Wrote.Done Wrote.Full)
-    (fits_told c.args.self.now.limits.items c.args.self.now.writes.items w c.deref.result.now (record { label = c.args.at.number; key = c.args.key.now; value = option_copied c.args.value })
-    c.index-limits.result.now c.number.result c.fits.result c.number.ensures c.requires.at c.index-limits.ensures c.deref.ensures.value e c.fits.ensures ∙ c.if-not-fits.false))
+returns-clause-fits c = sym (ap (λ b. cond b Wrote.Done Wrote.Full)
+    (fits_told c.args.self.now.limits.items c.args.self.now.writes.items c.deref.result.now (written c.args.at.number c.args.key.now (option_copied c.args.value))
+    c.index-limits.result.now c.number.result c.fits.result c.number.ensures c.requires.at c.index-limits.ensures c.deref.ensures.value c.fits.ensures ∙ c.if-not-fits.false))

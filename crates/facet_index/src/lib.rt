@@ -1,0 +1,15 @@
+//! A store of labelled facets with an index: an ordered map from keys to rows, each with one facet a label, and the counts of each
+//! label kept. Its speed does not depend on how many writes were made.
+#![tactic(auto)]
+
+mod index;
+mod member;
+mod next;
+mod put;
+mod row;
+mod steps;
+#[cfg(test)]
+mod tests;
+
+pub use index::FacetIndex;
+pub use steps::{Answers, StoreAnswer, StoreStep, play_steps};
