@@ -5,3 +5,8 @@ pub mod Segments
 pub mod Typings
 pub mod Deeper
 pub mod Floats
+pub mod ConstantLemmas
+pub mod Refused
+pub mod Derivations
+pub mod Worked
+pub mod OneFault

@@ -10,7 +10,7 @@ use Rattle.wasm_ast.specs.declared.modules.Module.{Module}
 use Rattle.wasm_ast.specs.Spaces.{memory_of, first_pages, table_size}
 use Rattle.wasm_ast.specs.Bytes.{placed, grown, with_pieces, first_memory}
 use Rattle.wasm_ast.specs.Structure.{constant_value, is_memory}
-use Rattle.wasm_ast.specs.Faults as fault
+use Rattle.wasm_ast.specs.declared.places.SegmentPlace.TheVariants as segment
 use Rattle.wasm_ast.specs.Validity.{Valid, is_element_past, is_piece_past}
 use Rattle.wasm_ast.proofs.Lists.{both_true, each_of, none_passes}
 use Rattle.wasm_ast.proofs.Valids.{kept, none_first, none_mapped, rule}
@@ -34,16 +34,16 @@ ElementsFit n es = (k : ℕ) (e : Element) → slice_get es k ≡ Some e → con
 
 pub elements_fit : (m : Module) → Valid m → ElementsFit (table_size m) m.elements
 elements_fit m valid k e f =
-    let first = none_first (option_map fault.InElement (position (is_element_past m) m.elements)) (option_map fault.InData (position (is_piece_past m) m.pieces) ∷ []) (kept m valid).segments in
+    let first = none_first (option_map segment.Element (position (is_element_past m) m.elements)) (option_map segment.Data (position (is_piece_past m) m.pieces) ∷ []) (kept m valid).segments in
     not_past (table_size m) (constant_value e.offset.items + length e.members)
-    (none_passes (is_element_past m) m.elements k e (none_mapped fault.InElement (position (is_element_past m) m.elements) first.0) f)
+    (none_passes (is_element_past m) m.elements k e (none_mapped segment.Element (position (is_element_past m) m.elements) first.0) f)
 
 pub pieces_fit : (m : Module) → Valid m → PiecesFit (first_pages m * 65536) m.pieces
 pieces_fit m valid k p f =
-    let first = none_first (option_map fault.InElement (position (is_element_past m) m.elements)) (option_map fault.InData (position (is_piece_past m) m.pieces) ∷ []) (kept m valid).segments in
-    let last = none_first (option_map fault.InData (position (is_piece_past m) m.pieces)) [] first.1 in
+    let first = none_first (option_map segment.Element (position (is_element_past m) m.elements)) (option_map segment.Data (position (is_piece_past m) m.pieces) ∷ []) (kept m valid).segments in
+    let last = none_first (option_map segment.Data (position (is_piece_past m) m.pieces)) [] first.1 in
     not_past (first_pages m * 65536) (constant_value p.offset.items + length p.bytes)
-    (none_passes (is_piece_past m) m.pieces k p (none_mapped fault.InData (position (is_piece_past m) m.pieces) last.0) f)
+    (none_passes (is_piece_past m) m.pieces k p (none_mapped segment.Data (position (is_piece_past m) m.pieces) last.0) f)
 
 -- the first memory has the pages that its type begins with
 pub length_first : (m : Module) → Valid m → length (first_memory m) ≡ first_pages m * 65536

@@ -11,10 +11,10 @@ use Rattle.wasm_ast.specs.declared.bodies.Body.{Body}
 use Rattle.wasm_ast.specs.declared.modules.Module.{Module}
 use Rattle.wasm_ast.specs.Spaces.{Function, import_of, imported_type, own_type, joined, function_at, own, type_of}
 use Rattle.wasm_ast.specs.Typing.{IsTyped}
-use Rattle.wasm_ast.specs.Hosts.{HostCall, host_named, host_type, same_val_type, same_val_types, same_type, agrees, is_host}
+use Rattle.wasm_ast.specs.declared.hosts.HostName.{HostName}
+use Rattle.wasm_ast.specs.Hosts.{host_named, host_type, same_val_type, same_val_types, same_type, agrees, is_host}
 use Rattle.wasm_ast.specs.Structure.{rules}
 use Rattle.wasm_ast.specs.Faults as fault
-use Rattle.wasm_ast.specs.Faults.{Fault, FloatPlace, SegmentPlace}
 use Rattle.wasm_ast.specs.Validity.{first_some, float_place, import_place, structure_rule, handle_of, handle_fault, segment_place, early_fault, Valid}
 use Rattle.wasm_ast.proofs.Lists.{same_some, both_true, none_passes, within, beyond, found, then_some}
 
@@ -89,12 +89,12 @@ host_at m x i valid e =
 
 -- the host call of an import and its type
 pub record Lent (i : Import) (ft : FuncType) : Type 0 where
-  pub call : HostCall
+  pub call : HostName
   pub named : host_named i.name ≡ Some call
   pub params : ft.params ≡ (host_type call).params
   pub results : ft.results ≡ (host_type call).results
 
-lent_as : (i : Import) (ft : FuncType) (o : Option HostCall) → host_named i.name ≡ o → IsTrue (agrees o (Some ft)) → Lent i ft
+lent_as : (i : Import) (ft : FuncType) (o : Option HostName) → host_named i.name ≡ o → IsTrue (agrees o (Some ft)) → Lent i ft
 lent_as i ft None e h = cc
 lent_as i ft (Some call) e h = let s = type_is ft (host_type call) h in record { call = call; named = e; params = s.0; results = s.1 }
 

@@ -35,6 +35,14 @@ in_pages bytes = length bytes / 65536
 abbrev pub grown : List ℕ → ℕ → List ℕ
 grown bytes n = bytes ++ replicate (n * 65536) 0
 
+-- the bytes with n of them, from one address on, put in their place from another one on
+abbrev pub copied : List ℕ → ℕ → ℕ → ℕ → List ℕ
+copied bytes to from n = placed bytes to (take n (drop from bytes))
+
+-- the bytes with the low byte of a number n times from this address on
+abbrev pub filled : List ℕ → ℕ → ℕ → ℕ → List ℕ
+filled bytes at value n = placed bytes at (replicate n (value % 256))
+
 -- the bytes with the data segments, in order, each from its offset on
 abbrev pub with_pieces : List ℕ → List Piece → List ℕ
 with_pieces bytes [] = bytes

@@ -23,7 +23,7 @@ test_type t = record { takes = t ∷ []; leaves = I32 }
 abbrev pub compare_type : ValType → OperatorType
 compare_type t = record { takes = t ∷ t ∷ []; leaves = I32 }
 
--- clz, ctz, popcnt
+-- clz, ctz, popcnt, and the extension of the sign within a type
 abbrev pub unary_type : ValType → OperatorType
 unary_type t = record { takes = t ∷ []; leaves = t }
 
@@ -52,6 +52,8 @@ operator_type n =
     if between 124 138 n then Some (binary_type I64) else
     if nat_eq n 167 then Some (convert_type I64 I32) else
     if between 172 173 n then Some (convert_type I32 I64) else
+    if between 192 193 n then Some (unary_type I32) else
+    if between 194 196 n then Some (unary_type I64) else
     None
 
 -- a load or a store: the type of the value, how many bytes are moved, and whether a narrow load extends the sign

@@ -33,11 +33,15 @@ import_of m x = option_and_then (λ (i : Import). imported_type m i.kind) (slice
 abbrev pub own_type : Module → ℕ → Option FuncType
 own_type m k = option_and_then (slice_get m.types) (slice_get m.functions k)
 
--- a function from its type and its body
+-- a function of this type and with this body
+abbrev pub function_of : FuncType → Body → Function
+function_of signature body = record { signature = signature; declared = body.locals; code = body.code.items }
+
+-- the same where both are there
 abbrev pub joined : Option FuncType → Option Body → Option Function
 joined None body = None
 joined (Some signature) None = None
-joined (Some signature) (Some body) = Some (record { signature = signature; declared = body.locals; code = body.code.items })
+joined (Some signature) (Some body) = Some (function_of signature body)
 
 -- the function with this number among those that the module defines
 abbrev pub function_at : Module → ℕ → Option Function
@@ -89,6 +93,15 @@ upto (Some n) = n
 -- the most pages that a memory may have: its maximum, and never more than 65,536 (2.3.5, 4.2.8)
 abbrev pub most_pages : MemoryType → ℕ
 most_pages t = min 65536 (upto t.maximum)
+
+-- the most pages that a memory of this type may have; none without a memory
+abbrev pub greatest_pages : Option MemoryType → ℕ
+greatest_pages None = 0
+greatest_pages (Some t) = most_pages t
+
+-- the most pages that the memory may have: 0 for a module without a memory
+abbrev pub page_limit : Module → ℕ
+page_limit m = greatest_pages (memory_of m)
 
 -- the types of the globals
 abbrev pub global_types : Module → List ValType

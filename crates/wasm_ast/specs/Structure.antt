@@ -1,5 +1,6 @@
 -- What a module must keep besides the typing of its bodies (3.2, 3.4), within the profile.
-use Rattle.std.specs.Prelude.{ℕ, ◌^◌, List, [], ◌∷◌, length, Bool, true, false, ◌&&◌, not, nat_eq, nat_lt, nat_le, if◌then◌else◌, bytes_eq, Option, Some, None}
+use Rattle.std.specs.Prelude.{ℕ, ◌^◌, List, [], ◌∷◌, length, Bool, true, false, ◌&&◌}
+use Rattle.std.specs.Prelude.{not, nat_eq, nat_lt, nat_le, if◌then◌else◌, bytes_eq, Option, Some, None}
 use Rattle.std.specs.List.{list_any, list_all}
 use lib.Chars.{codes}
 use Rattle.wasm_ast.specs.declared.val_types.ValType.{ValType}
@@ -93,7 +94,8 @@ is_start m (Some x) = is_entry_type (type_of m x)
 -- table 0, which is there, an i32.const, and functions in range
 abbrev pub is_element : Module → Element → Bool
 is_element m e =
-    nat_eq e.index 0 && (nat_lt 0 (length m.tables) && (is_constant_of I32 (constant e.offset.items) && list_all (λ x. nat_lt x (function_count m)) e.members))
+    nat_eq e.index 0 && (nat_lt 0 (length m.tables)
+    && (is_constant_of I32 (constant e.offset.items) && list_all (λ x. nat_lt x (function_count m)) e.members))
 
 -- memory 0, which is there, and an i32.const
 abbrev pub is_piece : Module → Piece → Bool

@@ -6,7 +6,13 @@ use Rattle.wasm_ast.specs.declared.trees.Seq.{Seq}
 use Rattle.wasm_ast.specs.declared.trees.Instr.{Instr, out-Instr}
 use Rattle.wasm_ast.specs.declared.trees.Instr.TheOpen.{Instr-F}
 use Rattle.wasm_ast.specs.declared.trees.Instr.TheVariants as V
-use Rattle.wasm_ast.specs.declared.trees.Instr.TheVariants.{rolls-Unreachable, rolls-Nop, rolls-Block, rolls-Loop, rolls-If, rolls-Br, rolls-BrIf, rolls-BrTable, rolls-Return, rolls-Call, rolls-CallIndirect, rolls-Drop, rolls-Select, rolls-LocalGet, rolls-LocalSet, rolls-LocalTee, rolls-GlobalGet, rolls-GlobalSet, rolls-Load, rolls-Store, rolls-MemorySize, rolls-MemoryGrow, rolls-I32Const, rolls-I64Const, rolls-Num, rolls-FloatMemory, rolls-F32Const, rolls-F64Const, rolls-FloatOp}
+use Rattle.wasm_ast.specs.declared.trees.Instr.TheVariants.{rolls-Unreachable, rolls-Nop, rolls-Block, rolls-Loop, rolls-If}
+use Rattle.wasm_ast.specs.declared.trees.Instr.TheVariants.{rolls-Br, rolls-BrIf, rolls-BrTable, rolls-Return, rolls-Call}
+use Rattle.wasm_ast.specs.declared.trees.Instr.TheVariants.{rolls-CallIndirect, rolls-Drop, rolls-Select, rolls-LocalGet, rolls-LocalSet}
+use Rattle.wasm_ast.specs.declared.trees.Instr.TheVariants.{rolls-LocalTee, rolls-GlobalGet, rolls-GlobalSet, rolls-Load, rolls-Store}
+use Rattle.wasm_ast.specs.declared.trees.Instr.TheVariants.{rolls-MemorySize, rolls-MemoryGrow, rolls-MemoryCopy, rolls-MemoryFill}
+use Rattle.wasm_ast.specs.declared.trees.Instr.TheVariants.{rolls-I32Const, rolls-I64Const, rolls-Num, rolls-FloatMemory, rolls-F32Const}
+use Rattle.wasm_ast.specs.declared.trees.Instr.TheVariants.{rolls-F64Const, rolls-FloatOp}
 use Rattle.wasm_ast.specs.declared.trees.Instr.TheViews.{out-roll-Instr}
 
 -- one level of an instruction
@@ -104,6 +110,14 @@ layer_memory_size = ap out-Instr (sym rolls-MemorySize) ∙ out-roll-Instr _
 pub layer_memory_grow : layer V.MemoryGrow ≡ Instr-F.MemoryGrow
 unfolding layer
 layer_memory_grow = ap out-Instr (sym rolls-MemoryGrow) ∙ out-roll-Instr _
+
+pub layer_memory_copy : layer V.MemoryCopy ≡ Instr-F.MemoryCopy
+unfolding layer
+layer_memory_copy = ap out-Instr (sym rolls-MemoryCopy) ∙ out-roll-Instr _
+
+pub layer_memory_fill : layer V.MemoryFill ≡ Instr-F.MemoryFill
+unfolding layer
+layer_memory_fill = ap out-Instr (sym rolls-MemoryFill) ∙ out-roll-Instr _
 
 pub layer_i32_const : (n : ℕ) → layer (V.I32Const n) ≡ Instr-F.I32Const n
 unfolding layer

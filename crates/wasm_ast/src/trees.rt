@@ -45,9 +45,13 @@ pub enum Instr {
     Store(u8, u32, u32),
     MemorySize,
     MemoryGrow,
+    /// Copies bytes within the memory. WebAssembly 2.0, 4.4.7.
+    MemoryCopy,
+    /// Fills a range of the memory with one byte. WebAssembly 2.0, 4.4.7.
+    MemoryFill,
     I32Const(u32),
     I64Const(u64),
-    /// An operator on integers.
+    /// An operator on integers, sign extension within a type included.
     Num(u8),
     /// A load or a store of a float.
     FloatMemory(u8, u32, u32),
