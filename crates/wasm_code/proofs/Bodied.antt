@@ -51,7 +51,7 @@ within_by f false t e = absurd cc
 within_ok : (f count left : ℕ) (t : Unit {0}) → within f count left ≡ Ok t → count ≤ left
 within_ok f count left t e = leb-true count left (within_by f (nat_le count left) t e)
 
-within_is : (f count left : ℕ) → count ≤ left → within f count left ≡ Ok tt
+pub within_is : (f count left : ℕ) → count ≤ left → within f count left ≡ Ok tt
 within_is f count left l = ap (λ b. if b then Ok tt else Err (TooManyLocals f)) (le-leb count left l)
 
 locals_sound : (f n left : ℕ) (p : Place) (y : List ValType × Place) → locals f n left p ≡ Ok y → IsLocals n left p y

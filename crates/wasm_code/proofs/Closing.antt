@@ -1,7 +1,7 @@
 -- An expression that is read is spelled.
 use Rattle.std.proofs.Common.{◌≡◌, ℕ, zero, suc, ◌+◌, ◌<◌, Bool, true, false, List, [], ◌∷◌, ◌++◌, length, Ok, Err, refl, sym, ap, subst, ◌∙◌, arith, append_assoc, inl, inr}
 use Rattle.std.proofs.lemmas.List.{append-nil}
-use Rattle.std.proofs.lemmas.Bool.{ltb-true, eqb-true}
+use Rattle.std.proofs.lemmas.Bool.{ltb-true}
 use Rattle.std.specs.Prelude.{◌⊎◌, Option, Some, None, nat_lt, nat_eq, if◌then◌else◌, Result}
 use Rattle.wasm_ast.specs.declared.val_types.ValType.{ValType}
 use Rattle.wasm_ast.specs.declared.trees.Instr.{Instr}
@@ -16,7 +16,7 @@ use Rattle.wasm_code.specs.Opcodes.{Kind, kind_of}
 use Rattle.wasm_code.specs.Reading as reading
 use Rattle.wasm_code.specs.Reading.{block_type, immediates, Next, More, Whole, close, end, otherwise, otherwise_at, enter, act, step, steps, go_on, expr}
 use Rattle.wasm_code.specs.Grammar.{block_byte, Spells, none, plain, block, loop, if_then, if_else, Expr}
-use Rattle.wasm_code.proofs.Joined.{bind_ok, ok_is, byte_sound}
+use Rattle.wasm_code.proofs.Joined.{bind_ok, ok_is, byte_sound, split}
 use Rattle.wasm_code.proofs.Fielded.{block_type_reads}
 use Rattle.wasm_code.proofs.Stepping.{kind_reads}
 
@@ -161,14 +161,6 @@ plain_by room op (Some kind) h fs items p q next y e b k d =
     subst (λ bytes. Closes room fs items bytes y.0 y.1.rest) (sym b)
     (front_closes room fs items i.0.0 (op ∷ q.rest) i.0.1.rest y.0 y.1.rest
     (λ more rest s. plain room op kind i.0.0 more q.rest i.0.1.rest rest h w.spells s) (g room e))
-
--- both ways of a test of the opcode
-split_by : {P : Type 0} (op b : ℕ) (t : Bool) → nat_eq op b ≡ t → (x z : Result Next DecodeError) (next : Next) → (op ≡ b → x ≡ Ok next → P) → (z ≡ Ok next → P) → (if t then x else z) ≡ Ok next → P
-split_by op b true h x z next f g e = f (eqb-true op b h) e
-split_by op b false h x z next f g e = g e
-
-split : {P : Type 0} (op b : ℕ) (x z : Result Next DecodeError) (next : Next) → (op ≡ b → x ≡ Ok next → P) → (z ≡ Ok next → P) → (if nat_eq op b then x else z) ≡ Ok next → P
-split op b x z next f g e = split_by op b (nat_eq op b) refl x z next f g e
 
 act_sound : (op room : ℕ) (fs : List Frame) (items : List Instr) (p q : Place) (next : Next) (y : List Instr × Place)
     → room + length fs ≡ 512 → p.rest ≡ op ∷ q.rest → act op fs items p q ≡ Ok next → Done y next → Closes room fs items p.rest y.0 y.1.rest

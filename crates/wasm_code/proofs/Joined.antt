@@ -6,7 +6,6 @@ use Rattle.wasm_code.specs.declared.error.DecodeError.{DecodeError}
 use Rattle.wasm_code.specs.Places.{Place, Reading, ◌>>=◌, byte, byte_of, check}
 use Rattle.wasm_code.specs.Fields.{tag, one_of, one_of_at}
 use Rattle.wasm_code.specs.Spelling.{Then, Byte}
-use Rattle.wasm_code.specs.Agreement.{Agrees}
 
 pub bind : {A B : Type 0} (r : Result A DecodeError) (f : A → Result B DecodeError) (x : A) → r ≡ Ok x → (r >>= f) ≡ f x
 bind r f x e = ap (λ r. r >>= f) e
@@ -40,9 +39,6 @@ pub record Was {X : Type 0} (G : X → List ℕ → List ℕ → Type 0) (p : Pl
 pub record Reads {X : Type 0} (G : X → List ℕ → List ℕ → Type 0) (read : Place → Reading X) : Type 0 where
   pub sound : (p : Place) (y : X × Place) → read p ≡ Ok y → Was G p y
   pub complete : (x : X) (p : Place) (rest : List ℕ) → G x p.rest rest → (at : ℕ) × (read p ≡ Ok (x, here rest at))
-
-pub agrees : {X : Type 0} (G : X → List ℕ → List ℕ → Type 0) (read : Place → Reading X) → Reads G read → Agrees G read
-agrees G read a = record { sound = λ p x q e. (a.sound p (x, q) e).spells; complete = a.complete }
 
 -- the same grammar in other words
 pub along : {X : Type 0} (G H : X → List ℕ → List ℕ → Type 0) (read : Place → Reading X) → ((x : X) (b r : List ℕ) → G x b r → H x b r) → ((x : X) (b r : List ℕ) → H x b r → G x b r) → Reads G read → Reads H read
@@ -180,3 +176,11 @@ map3 f G H K read next last ra rb rc = record {
       let k = (map2 (f d.0) H K next last rb rc).complete x q rest (d.1, d.2, d.3, d.4.2) in
       (k.0, bind (read p) (λ a. next a.1 >>= λ b. last b.1 >>= λ c. Ok (f a.0 b.0 c.0, c.1)) (d.0, q) c.1 ∙ k.1));
 }
+
+-- both ways of a test
+split_by : {A P : Type 0} (n b : ℕ) (t : Bool) → nat_eq n b ≡ t → (x z : Result A DecodeError) (y : A) → (n ≡ b → x ≡ Ok y → P) → (z ≡ Ok y → P) → (if t then x else z) ≡ Ok y → P
+split_by n b true h x z y f g e = f (eqb-true n b h) e
+split_by n b false h x z y f g e = g e
+
+pub split : {A P : Type 0} (n b : ℕ) (x z : Result A DecodeError) (y : A) → (n ≡ b → x ≡ Ok y → P) → (z ≡ Ok y → P) → (if nat_eq n b then x else z) ≡ Ok y → P
+split n b x z y f g e = split_by n b (nat_eq n b) refl x z y f g e

@@ -1,6 +1,14 @@
 pub mod Joined
 pub mod Fielded
+pub mod Moved
+pub mod Names
+pub mod Loops
+pub mod Runs
 pub mod Stepping
+pub mod Moving
 pub mod Driven
 pub mod Closing
 pub mod Bodied
+pub mod Declared
+pub mod Tables
+pub mod Answered

@@ -1,19 +1,21 @@
 -- What follows an opcode, and instruction after instruction.
-use Rattle.std.proofs.Common.{◌≡◌, ℕ, zero, suc, ◌+◌, ◌<◌, ◌≤◌, Bool, true, false, List, [], ◌∷◌, ◌++◌, length, Result, Ok, Err, refl, sym, ap, ◌∙◌, subst, arith}
+use Rattle.std.proofs.Common.{◌≡◌, ℕ, zero, suc, ◌+◌, ◌<◌, ◌≤◌, Bool, true, false, List, [], ◌∷◌, ◌++◌, length, Result, Ok, Err, refl, sym, ap, ◌∙◌, subst, arith, inl, inr}
 use Rattle.std.specs.Prelude.{Option, Some, None, nat_eq, if◌then◌else◌}
 use Rattle.wasm_ast.specs.declared.val_types.ValType.{ValType}
 use Rattle.wasm_ast.specs.declared.trees.Instr.{Instr}
+use Rattle.wasm_ast.specs.declared.trees.Instr.TheVariants as V
+use Rattle.wasm_code.specs.declared.error.DecodeError.TheVariants.{Malformed}
 use Rattle.wasm_code.specs.declared.error.DecodeError.{DecodeError}
 use Rattle.wasm_code.specs.declared.frames.Opened.{Opened}
 use Rattle.wasm_code.specs.declared.frames.Opened.TheVariants as opened
 use Rattle.wasm_code.specs.declared.frames.Frame.{Frame}
 use Rattle.wasm_code.specs.Places.{Place, Reading, ◌>>=◌, byte}
 use Rattle.wasm_code.specs.Fields.{tag, u32, s32, s64, bits32, bits64, vector}
-use Rattle.wasm_code.specs.Opcodes.{Kind, Bare, Zero, Index, IndexZero, Labels, Memory, Signed32, Signed64, Float32, Float64, kind_of}
-use Rattle.wasm_code.specs.Spelling.{U32, S32, S64, Bits32, Bits64, Vector}
-use Rattle.wasm_code.specs.Reading.{block_type, immediates, Next, More, Whole, end, otherwise, otherwise_at, room, enter, plain, act, step, go_on, steps, go}
+use Rattle.wasm_code.specs.Opcodes.{Kind, Bare, Zero, Index, IndexZero, Labels, Memory, Signed32, Signed64, Float32, Float64, Bulk, kind_of}
+use Rattle.wasm_code.specs.Spelling.{Then, Byte, U32, S32, S64, Bits32, Bits64, Vector}
+use Rattle.wasm_code.specs.Reading.{block_type, zero_byte, bulk, immediates, Next, More, Whole, end, otherwise, otherwise_at, room, enter, plain, act, step, go_on, steps, go}
 use Rattle.wasm_code.specs.Grammar.{Follows}
-use Rattle.wasm_code.proofs.Joined.{bind, bind_ok, ok_is, here, Was, Reads, byte_shorter, tag_sound, tag_complete, map1, map2}
+use Rattle.wasm_code.proofs.Joined.{bind, bind_ok, ok_is, here, Was, Reads, byte_shorter, tag_sound, tag_complete, tagged, split, map1, map2}
 use Rattle.wasm_code.proofs.Fielded.{u32_reads, s32_reads, s64_reads, bits32_reads, bits64_reads, vector_reads, block_type_reads}
 
 zero_reads : (made : Instr) → Reads (Follows (Zero made)) (immediates (Zero made))
@@ -46,6 +48,41 @@ index_zero_reads made = record {
       ));
 }
 
+-- memory.copy and memory.fill
+copies : Reads (λ i. Then (Byte 0x00) (Follows (Zero V.MemoryCopy) i)) (λ p. tag 0x00 p >>= λ q. zero_byte V.MemoryCopy q)
+copies = tagged 0x00 (Follows (Zero V.MemoryCopy)) (zero_byte V.MemoryCopy) (zero_reads V.MemoryCopy)
+
+bulk_by : (n : ℕ) (p q : Place) (y : Instr × Place) → Was U32 p (n, q) → bulk n p.at q ≡ Ok y → Was (Follows Bulk) p y
+bulk_by n p q y w e =
+    let P : Type 0 = Was (Follows Bulk) p y in
+    let fault : Reading Instr = Err (Malformed p.at) in
+    let fills : Reading Instr = if nat_eq n 11 then zero_byte V.MemoryFill q else fault in
+    let is : (m : ℕ) → n ≡ m → U32 m p.rest q.rest = λ m e. subst (λ m. U32 m p.rest q.rest) e w.spells in
+    split {P = P} n 10 (tag 0x00 q >>= λ r. zero_byte V.MemoryCopy r) fills y (λ h k. (
+    let v = copies.sound q y k in let d = v.spells in
+    record { spells = inl (d.2.0, (q.rest, is 10 h, (d.0, d.1, d.2.1))); shorter = omega (arith, w.shorter, v.shorter) }))
+    (split {P = P} n 11 (zero_byte V.MemoryFill q) fault y (λ h k. (
+    let v = (zero_reads V.MemoryFill).sound q y k in let d = v.spells in
+    record { spells = inr (d.0, (q.rest, is 11 h, d.1)); shorter = omega (arith, w.shorter, v.shorter) }))
+    (λ k. absurd cc)) e
+
+bulk_sound : (p : Place) (y : Instr × Place) → immediates Bulk p ≡ Ok y → Was (Follows Bulk) p y
+bulk_sound p y e =
+    let n = bind_ok (u32 p) (λ n. bulk n.0 p.at n.1) y e in
+    bulk_by n.0.0 p n.0.1 y (u32_reads.sound p n.0 n.1) n.2
+
+bulk_complete : (i : Instr) (p : Place) (rest : List ℕ) → Follows Bulk i p.rest rest → (at : ℕ) × (immediates Bulk p ≡ Ok (i, here rest at))
+bulk_complete i p rest (inl d) =
+    let n = u32_reads.complete 10 p d.1.0 d.1.1 in
+    let q = here d.1.0 n.0 in
+    let c = copies.complete i q rest (d.1.2.0, d.1.2.1, (d.0, d.1.2.2)) in
+    (c.0, bind (u32 p) (λ n. bulk n.0 p.at n.1) (10, q) n.1 ∙ c.1)
+bulk_complete i p rest (inr d) =
+    let n = u32_reads.complete 11 p d.1.0 d.1.1 in
+    let q = here d.1.0 n.0 in
+    let c = (zero_reads V.MemoryFill).complete i q rest (d.0, d.1.2) in
+    (c.0, bind (u32 p) (λ n. bulk n.0 p.at n.1) (11, q) n.1 ∙ c.1)
+
 pub kind_reads : (kind : Kind) → Reads (Follows kind) (immediates kind)
 kind_reads (Bare made) = record {
   sound = λ p y e. subst (Was (Follows (Bare made)) p) (ok_is (made, p) y e) (record { spells = (refl, refl); shorter = omega arith });
@@ -60,6 +97,7 @@ kind_reads (Signed32 made) = map1 made S32 s32 s32_reads
 kind_reads (Signed64 made) = map1 made S64 s64 s64_reads
 kind_reads (Float32 made) = map1 made Bits32 bits32 bits32_reads
 kind_reads (Float64 made) = map1 made Bits64 bits64 bits64_reads
+kind_reads Bulk = record { sound = bulk_sound; complete = bulk_complete }
 
 -- at most k bytes are left after a step
 abbrev at_most : ℕ → Result Next DecodeError → Type 0
@@ -153,7 +191,7 @@ enough (suc n) zero fs items p l l' = nothing_left (suc n) zero fs items p l'
 enough (suc n) (suc m) fs items p l l' =
     on_by n m (steps (suc n)) (steps (suc m)) (step fs items p) (step_shorter n fs items p l).is (step_shorter m fs items p l').is (λ gs js q k k'. enough n m gs js q k k')
 
-smaller : (fs : List Frame) (items : List Instr) (p : Place) (gs : List Frame) (js : List Instr) (q : Place) → step fs items p ≡ Ok (More gs js q) → length q.rest < length p.rest
+pub smaller : (fs : List Frame) (items : List Instr) (p : Place) (gs : List Frame) (js : List Instr) (q : Place) → step fs items p ≡ Ok (More gs js q) → length q.rest < length p.rest
 unfolding step
 smaller fs items p gs js q e =
     let b = bind_ok (byte p) (λ op. act op.0 fs items p op.1) (More gs js q) e in

@@ -88,13 +88,19 @@ range p = do
   t ← check (nat_le n.0 (length n.1.rest)) p.at
   Ok (record { rest = take n.0 n.1.rest; at = n.1.at }, past n.0 n.1)
 
--- what fills a range
+-- what fills all that is left of a range
+abbrev pub filled : {X : Type 0} → (Place → Reading X) → Place → Result X DecodeError
+filled read p = do
+  x ← read p
+  t ← ended x.1
+  Ok x.0
+
+-- a size, and what fills so many bytes
 unfoldable pub sized : {X : Type 0} → (Place → Reading X) → Place → Reading X
 sized read p = do
   r ← range p
-  x ← read r.0
-  t ← ended x.1
-  Ok (x.0, r.1)
+  x ← filled read r.0
+  Ok (x, r.1)
 
 -- a vector of bytes
 unfoldable pub bytes : Place → Reading (List ℕ)

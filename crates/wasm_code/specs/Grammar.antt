@@ -1,12 +1,12 @@
 -- The bytes that spell instructions, expressions and bodies (WebAssembly Core 1.0, 5.4 and 5.5.13).
-use Rattle.std.specs.Prelude.{ℕ, suc, ◌≡◌, ◌≤◌, List, [], ◌∷◌, replicate, sum_by, Option, Some, None}
+use Rattle.std.specs.Prelude.{ℕ, suc, ◌≡◌, ◌≤◌, ◌⊎◌, List, [], ◌∷◌, slice_range, replicate, sum_by, Option, Some, None}
 use Rattle.std.specs.List.{flat_map}
 use Rattle.wasm_ast.specs.declared.val_types.ValType.{ValType}
 use Rattle.wasm_ast.specs.declared.trees.Seq.{Seq}
 use Rattle.wasm_ast.specs.declared.trees.Instr.{Instr}
 use Rattle.wasm_ast.specs.declared.trees.Instr.TheVariants as V
 use Rattle.wasm_ast.specs.declared.bodies.Body.{Body}
-use Rattle.wasm_code.specs.Opcodes.{Kind, Bare, Zero, Index, IndexZero, Labels, Memory, Signed32, Signed64, Float32, Float64, kind_of}
+use Rattle.wasm_code.specs.Opcodes.{Kind, Bare, Zero, Index, IndexZero, Labels, Memory, Signed32, Signed64, Float32, Float64, Bulk, kind_of}
 use Rattle.wasm_code.specs.Spelling.{Then, Byte, U32, S32, S64, Bits32, Bits64, Vector, Val, val_byte}
 
 -- what follows the opcode of an instruction of this kind
@@ -21,6 +21,9 @@ Follows (Signed32 made) i bytes rest = (n : ℕ) × (i ≡ made n) × S32 n byte
 Follows (Signed64 made) i bytes rest = (n : ℕ) × (i ≡ made n) × S64 n bytes rest
 Follows (Float32 made) i bytes rest = (n : ℕ) × (i ≡ made n) × Bits32 n bytes rest
 Follows (Float64 made) i bytes rest = (n : ℕ) × (i ≡ made n) × Bits64 n bytes rest
+Follows Bulk i bytes rest =
+    ((i ≡ V.MemoryCopy) × Then (U32 10) (Then (Byte 0x00) (Byte 0x00)) bytes rest)
+    ⊎ ((i ≡ V.MemoryFill) × Then (U32 11) (Byte 0x00) bytes rest)
 
 -- the byte of a block type (5.3.2)
 abbrev pub block_byte : Option ValType → ℕ
@@ -50,6 +53,11 @@ pub data Spells : (room : ℕ) (code : List Instr) (bytes rest : List ℕ) → T
 -- an expression (5.4.6): instructions with at most 512 blocks open, and the byte 0B
 abbrev pub Expr : List Instr → List ℕ → List ℕ → Type 0
 Expr code bytes rest = Spells 512 code bytes (0x0b ∷ rest)
+
+-- an expression that begins the bytes from start to end, and the offset behind it
+abbrev pub ExprTo : ℕ → ℕ → List ℕ → Seq × ℕ → Type 0
+ExprTo start end bytes found =
+    (start ≤ found.1) × (found.1 ≤ end) × Expr found.0.items (slice_range bytes start end) (slice_range bytes found.1 end)
 
 -- a group of locals of one type
 abbrev pub Group : ℕ × ValType → List ℕ → List ℕ → Type 0

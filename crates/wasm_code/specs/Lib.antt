@@ -6,3 +6,4 @@ pub mod Spelling
 pub mod Grammar
 pub mod Examples
 pub mod Agreement
+pub mod Answers

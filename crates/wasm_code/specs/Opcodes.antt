@@ -1,4 +1,4 @@
--- The opcodes of the instructions that hold no instructions (WebAssembly Core 1.0, 5.4).
+-- The opcodes of the instructions that hold no instructions (WebAssembly Core 1.0, 5.4, with the additions of Core 2.0).
 use Rattle.std.specs.Prelude.{ℕ, Bool, ◌&&◌, ◌||◌, nat_le, nat_eq, if◌then◌else◌, List, Option, Some, None}
 use Rattle.wasm_ast.specs.declared.trees.Instr.{Instr}
 use Rattle.wasm_ast.specs.declared.trees.Instr.TheVariants as V
@@ -15,6 +15,7 @@ pub data Kind : Type 0 where
   Signed64 : (ℕ → Instr) → Kind  -- a signed integer of 64 bits
   Float32 : (ℕ → Instr) → Kind  -- 4 raw bytes
   Float64 : (ℕ → Instr) → Kind  -- 8 raw bytes
+  Bulk : Kind  -- an integer that says which instruction, and its bytes 00
 
 abbrev pub between : ℕ → ℕ → ℕ → Bool
 between low high op = nat_le low op && nat_le op high
@@ -56,9 +57,9 @@ memory op =
     if nat_eq op 0x3f then Some (Zero V.MemorySize) else
     if nat_eq op 0x40 then Some (Zero V.MemoryGrow) else None
 
--- numeric instructions (5.4.5): those on integers alone, then those that take or give a float
+-- numeric instructions (5.4.5): those on integers alone, sign extension among them, then those that take or give a float
 abbrev pub is_num : ℕ → Bool
-is_num op = between 0x45 0x5a op || between 0x67 0x8a op || nat_eq op 0xa7 || between 0xac 0xad op
+is_num op = between 0x45 0x5a op || between 0x67 0x8a op || nat_eq op 0xa7 || between 0xac 0xad op || between 0xc0 0xc4 op
 
 abbrev pub is_float_op : ℕ → Bool
 is_float_op op = between 0x5b 0x66 op || between 0x8b 0xa6 op || between 0xa8 0xab op || between 0xae 0xbf op
@@ -74,4 +75,5 @@ numeric op =
 
 -- what an opcode stands for; None for an opcode of a block, and for a byte that is no opcode
 abbrev pub kind_of : ℕ → Option Kind
-kind_of op = if nat_le op 0x24 then control op else if nat_le op 0x40 then memory op else numeric op
+kind_of op =
+    if nat_le op 0x24 then control op else if nat_le op 0x40 then memory op else if nat_eq op 0xfc then Some Bulk else numeric op

@@ -1,5 +1,5 @@
 -- Fields are read from the left. A fault has the offset of the first byte of the first field that cannot be read inside its range.
-use Rattle.std.specs.Prelude.{ℕ, ◌+◌, ◌==◌, Bool, if◌then◌else◌, List, [], ◌∷◌, length, drop, Result, Ok, Err}
+use Rattle.std.specs.Prelude.{ℕ, ◌+◌, ◌==◌, ◌≡◌, Bool, if◌then◌else◌, List, [], ◌∷◌, length, drop, slice_range, Result, Ok, Err}
 use Rattle.wasm_code.specs.declared.error.DecodeError.{DecodeError}
 use Rattle.wasm_code.specs.declared.error.DecodeError.TheVariants.{Malformed}
 
@@ -7,6 +7,10 @@ use Rattle.wasm_code.specs.declared.error.DecodeError.TheVariants.{Malformed}
 pub record Place : Type 0 where
   pub rest : List ℕ
   pub at : ℕ
+
+-- the bytes of a file from start to end
+abbrev pub part : ℕ → ℕ → List ℕ → Place
+part start end bytes = record { rest = slice_range bytes start end; at = start }
 
 -- what stood at a place, and the place behind it
 abbrev pub Reading : Type 0 → Type 0
@@ -37,3 +41,7 @@ check holds at = if holds then Ok tt else Err (Malformed at)
 -- nothing is left of the range
 abbrev pub ended : Place → Result (Unit {0}) DecodeError
 ended p = check (length p.rest == 0) p.at
+
+-- the first fault of a reading
+abbrev pub Fails : {X : Type 0} → Result X DecodeError → DecodeError → Type 0
+Fails reading fault = reading ≡ Err fault

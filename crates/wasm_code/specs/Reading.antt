@@ -1,7 +1,9 @@
 -- Reading instructions, expressions and bodies from the left, a field at a time.
 use Rattle.std.specs.Option.{option_map}
-use Rattle.std.specs.Prelude.{ℕ, zero, suc, ◌-◌, nat_lt, nat_le, nat_eq, if◌then◌else◌, List, [], ◌∷◌, ◌++◌, length, replicate, Option, Some, None, Result, Ok, Err}
+use Rattle.std.specs.Prelude.{ℕ, zero, suc, ◌-◌, nat_lt, nat_le, nat_eq, if◌then◌else◌, Option, Some, None, Result, Ok, Err}
+use Rattle.std.specs.Prelude.{List, [], ◌∷◌, ◌++◌, length, replicate}
 use Rattle.wasm_ast.specs.declared.val_types.ValType.{ValType}
+use Rattle.wasm_ast.specs.declared.trees.Seq.{Seq}
 use Rattle.wasm_ast.specs.declared.trees.Instr.{Instr}
 use Rattle.wasm_ast.specs.declared.trees.Instr.TheVariants as V
 use Rattle.wasm_ast.specs.declared.bodies.Body.{Body}
@@ -11,8 +13,8 @@ use Rattle.wasm_code.specs.declared.frames.Opened.{Opened}
 use Rattle.wasm_code.specs.declared.frames.Opened.TheVariants as opened
 use Rattle.wasm_code.specs.declared.frames.Frame.{Frame}
 use Rattle.wasm_code.specs.Places.{Place, Reading, ◌>>=◌, byte}
-use Rattle.wasm_code.specs.Fields.{tag, one_of, u32, s32, s64, bits32, bits64, vector, val_type, val_type_of}
-use Rattle.wasm_code.specs.Opcodes.{Kind, Bare, Zero, Index, IndexZero, Labels, Memory, Signed32, Signed64, Float32, Float64, kind_of}
+use Rattle.wasm_code.specs.Fields.{tag, one_of, u32, s32, s64, bits32, bits64, vector, filled, val_type, val_type_of}
+use Rattle.wasm_code.specs.Opcodes.{Kind, Bare, Zero, Index, IndexZero, Labels, Memory, Signed32, Signed64, Float32, Float64, Bulk, kind_of}
 
 -- block types (5.3.2): 40 for none, or a value type
 abbrev pub block_type_of : ℕ → Option (Option ValType)
@@ -21,12 +23,22 @@ block_type_of b = if nat_eq b 0x40 then Some None else option_map Some (val_type
 unfoldable pub block_type : Place → Reading (Option ValType)
 block_type p = one_of block_type_of p
 
+-- the byte 00, and the instruction that it ends
+abbrev pub zero_byte : Instr → Place → Reading Instr
+zero_byte instr p = do
+  q ← tag 0x00 p
+  Ok (instr, q)
+
+-- the instruction of the opcode FC with this integer, which stood at the offset, and its bytes 00
+abbrev pub bulk : ℕ → ℕ → Place → Reading Instr
+bulk n at p =
+    if nat_eq n 10 then (tag 0x00 p >>= λ q. zero_byte V.MemoryCopy q) else
+    if nat_eq n 11 then zero_byte V.MemoryFill p else Err (Malformed at)
+
 -- an instruction, from what follows its opcode
 abbrev pub immediates : Kind → Place → Reading Instr
 immediates (Bare instr) p = Ok (instr, p)
-immediates (Zero instr) p = do
-  q ← tag 0x00 p
-  Ok (instr, q)
+immediates (Zero instr) p = zero_byte instr p
 immediates (Index instr) p = do
   n ← u32 p
   Ok (instr n.0, n.1)
@@ -54,8 +66,17 @@ immediates (Float32 instr) p = do
 immediates (Float64 instr) p = do
   n ← bits64 p
   Ok (instr n.0, n.1)
+immediates Bulk p = do
+  n ← u32 p
+  bulk n.0 p.at n.1
 
--- The blocks that are open, the instructions so far of the innermost and what is left; or all instructions of an expression, and what is left.
+-- an instruction of this kind, whose opcode stands at p, with q behind it
+abbrev pub instruction : Option Kind → Place → Place → Reading Instr
+instruction None p q = Err (Malformed p.at)
+instruction (Some kind) p q = immediates kind q
+
+-- The blocks that are open, the instructions so far of the innermost and what is left; or all instructions of an expression,
+-- and what is left.
 pub data Next : Type 0 where
   More : List Frame → List Instr → Place → Next
   Whole : List Instr → Place → Next
@@ -72,9 +93,13 @@ abbrev pub end : List Frame → List Instr → Place → Next
 end [] items q = Whole items q
 end (f ∷ fs) items q = More fs (f.items ++ close f.opened items ∷ []) q
 
+-- a block that has just been opened, with nothing in it yet
+abbrev pub entered : Opened → List Frame → List Instr → Place → Next
+entered opens fs items q = More (record { opened = opens; items = items } ∷ fs) [] q
+
 -- The opcode 05 is allowed only where the innermost open block is an if that had none yet. It stands at p, and q is behind it.
 abbrev pub otherwise_at : Opened → List Frame → List Instr → List Instr → Place → Place → Result Next DecodeError
-otherwise_at (opened.If bt) fs outer items p q = Ok (More (record { opened = opened.Else bt (record { items = items }); items = outer } ∷ fs) [] q)
+otherwise_at (opened.If bt) fs outer items p q = Ok (entered (opened.Else bt (record { items = items })) fs outer q)
 otherwise_at (opened.Block bt) fs outer items p q = Err (Malformed p.at)
 otherwise_at (opened.Loop bt) fs outer items p q = Err (Malformed p.at)
 otherwise_at (opened.Else bt first) fs outer items p q = Err (Malformed p.at)
@@ -92,13 +117,12 @@ abbrev pub enter : (Option ValType → Opened) → List Frame → List Instr →
 enter opens fs items p q = do
   t ← room fs p
   bt ← block_type q
-  Ok (More (record { opened = opens bt.0; items = items } ∷ fs) [] bt.1)
+  Ok (entered (opens bt.0) fs items bt.1)
 
 -- an instruction that holds no instructions
 abbrev pub plain : Option Kind → List Frame → List Instr → Place → Place → Result Next DecodeError
-plain None fs items p q = Err (Malformed p.at)
-plain (Some kind) fs items p q = do
-  i ← immediates kind q
+plain kind fs items p q = do
+  i ← instruction kind p q
   Ok (More fs (items ++ i.0 ∷ []) i.1)
 
 -- what the opcode at p does, with q behind it (5.4)
@@ -133,6 +157,12 @@ go fs items p = steps (suc (length p.rest)) fs items p
 abbrev pub expr : Place → Reading (List Instr)
 expr p = go [] [] p
 
+-- the expression that begins here, and the offset behind it
+abbrev pub expr_to : Place → Result (Seq × ℕ) DecodeError
+expr_to p = do
+  code ← expr p
+  Ok (record { items = code.0 }, code.1.at)
+
 -- a body declares at most 1,024 locals, of which so many are left
 abbrev pub within : (f : ℕ) → ℕ → ℕ → Result (Unit {0}) DecodeError
 within f count left = if nat_le count left then Ok tt else Err (TooManyLocals f)
@@ -154,3 +184,7 @@ body f p = do
   declared ← locals f groups.0 1024 groups.1
   code ← expr declared.1
   Ok (record { locals = declared.0; code = record { items = code.0 } }, code.1)
+
+-- the body numbered f, which fills what is left of a range
+abbrev pub whole_body : ℕ → Place → Result Body DecodeError
+whole_body f p = filled (body f) p

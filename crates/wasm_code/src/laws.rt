@@ -1,17 +1,27 @@
 //! What follows from the definitions.
 
-ghost use Rattle.std.specs.Prelude.{ℕ, ◌≡◌, [], ◌++◌, codes, Ok, Err};
+ghost use Rattle.std.specs.Prelude.{ℕ, ◌≡◌, ◌<◌, [], ◌++◌, codes, is_some, Ok, Err};
+ghost use Rattle.wasm_ast.specs.Operators.{operator_type, load_of, store_of};
 ghost use Rattle.wasm_code.specs.Agreement.{Agrees};
 ghost use Rattle.wasm_code.specs.declared.error.DecodeError.TheVariants.{Malformed, TooDeep, TooManyLocals};
 ghost use Rattle.wasm_code.specs.Examples.{endless, endless_bytes, hex, opening, start};
 ghost use Rattle.wasm_code.specs.Grammar.{Expr, IsBody};
+ghost use Rattle.wasm_code.specs.Opcodes.{is_num, is_load, is_store};
 ghost use Rattle.wasm_code.specs.Reading.{expr, body};
 
 /// The grammar and the reading from the left agree: an expression or a body is read exactly where the bytes spell it,
-/// whatever the number of the body.
+/// whatever the number of the body. The reading goes on behind the bytes that it used; its fault is within its range, and
+/// never out of memory.
 pub fn reads_what_is_spelled()
     ensures expressions { Agrees Expr expr }
     ensures bodies { (f : ℕ) → Agrees IsBody (body f) }
+{}
+
+/// The bytes that are opcodes of integer operators, loads and stores are those that have a type, on all bytes.
+pub fn opcodes_agree()
+    ensures operators { (op : ℕ) → op < 256 → is_num op ≡ is_some (operator_type op) }
+    ensures loads { (op : ℕ) → op < 256 → is_load op ≡ is_some (load_of op) }
+    ensures stores { (op : ℕ) → op < 256 → is_store op ≡ is_some (store_of op) }
 {}
 
 /// A body without locals, whose code is a loop without an end, is spelled by seven bytes, and read from them.
@@ -30,5 +40,5 @@ pub fn finds_faults()
     ensures twice { expr (start (hex (codes "044005050b0b"))) ≡ Err (Malformed 3) }
     ensures long { expr (start (hex (codes "0110808080808000"))) ≡ Err (Malformed 2) }
     ensures type_ { expr (start (hex (codes "02410b0b"))) ≡ Err (Malformed 1) }
-    ensures opcode { expr (start (hex (codes "01c00b"))) ≡ Err (Malformed 1) }
+    ensures opcode { expr (start (hex (codes "01c50b"))) ≡ Err (Malformed 1) }
 {}

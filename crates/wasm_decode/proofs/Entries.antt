@@ -19,15 +19,16 @@ use Rattle.wasm_ast.specs.declared.bodies.Body.{Body}
 use Rattle.wasm_ast.specs.declared.trees.Instr.{Instr}
 use Rattle.wasm_code.specs.declared.error.DecodeError.TheVariants.{Malformed}
 use Rattle.wasm_code.specs.Places.{Place, Reading, ◌>>=◌, byte, check}
-use Rattle.wasm_code.specs.Fields.{tag, one_of, u32, val_type, vector, sized, bytes, name}
+use Rattle.wasm_code.specs.Fields.{tag, one_of, u32, val_type, times, vector, sized, bytes, name}
 use Rattle.wasm_code.specs.Reading.{expr, body}
 use Rattle.wasm_code.specs.Spelling.{Then, Byte, U32, Members, Vector, Bytes, Sized, Name, Val}
 use Rattle.wasm_code.specs.Grammar.{Expr, IsBody}
-use Rattle.wasm_code.proofs.Joined.{bind, bind_ok, ok_is, check_ok, checked, here, Was, Reads, along, byte_sound, byte_complete, tagged, one_of_reads, peel, Made1, Made2, Made3, map1, map2, map3}
-use Rattle.wasm_code.proofs.Fielded.{u32_reads, val_type_reads, vector_reads, sized_reads, bytes_reads, name_reads}
+use Rattle.wasm_code.proofs.Joined.{bind, bind_ok, ok_is, check_ok, checked, here, Was, Reads, along, byte_sound, byte_complete, tagged, one_of_reads, peel, split, Made1, Made2, Made3, map1, map2, map3}
+use Rattle.wasm_code.proofs.Fielded.{u32_reads, val_type_reads, times_sound, times_complete, vector_reads, sized_reads, bytes_reads, name_reads}
 use Rattle.wasm_code.proofs.Bodied.{expr_reads, body_reads}
-use Rattle.wasm_decode.specs.Parts.{func_type, flag_of, maximum, limits, memory_type, table, global_type, import_kind_at, import_kind, import, global, export_kind_of, export, start, element, piece, bodies, code}
-use Rattle.wasm_decode.specs.Spelling.{FuncTypes, Limits, MemoryTypes, Tables, flag_byte, GlobalTypes, ImportKinds, Imports, Globals, export_byte, Exports, Starts, Elements, Pieces}
+use Rattle.wasm_decode.specs.Parts.{func_type, flag_of, maximum, limits, memory_type, table, global_type, import_kind_at, import_kind, import, global, export_kind_of, export, number, element, piece, is_counted, pieces, bodies, code}
+use Rattle.wasm_decode.specs.Grammar.{Counts}
+use Rattle.wasm_decode.specs.Spelling.{FuncTypes, Limits, MemoryTypes, Tables, flag_byte, GlobalTypes, ImportKinds, Imports, Globals, export_byte, Exports, Number, Elements, Pieces}
 
 -- function types
 abbrev func_type_from : List ValType → List ValType → FuncType
@@ -149,13 +150,6 @@ global_type_reads =
 abbrev a_global : ValType × Bool → ImportKind
 a_global g = kind.Global g.0 g.1
 
-split_by : {P : Type 0} (op b : ℕ) (t : Bool) → nat_eq op b ≡ t → (x z : Reading ImportKind) (y : ImportKind × Place) → (op ≡ b → x ≡ Ok y → P) → (z ≡ Ok y → P) → (if t then x else z) ≡ Ok y → P
-split_by op b true h x z y f g e = f (eqb-true op b h) e
-split_by op b false h x z y f g e = g e
-
-split : {P : Type 0} (op b : ℕ) (x z : Reading ImportKind) (y : ImportKind × Place) → (op ≡ b → x ≡ Ok y → P) → (z ≡ Ok y → P) → (if nat_eq op b then x else z) ≡ Ok y → P
-split op b x z y f g e = split_by op b (nat_eq op b) refl x z y f g e
-
 import_kind_by : (b : ℕ) (p q : Place) (y : ImportKind × Place) → p.rest ≡ b ∷ q.rest → import_kind_at b p.at q ≡ Ok y → Was ImportKinds p y
 import_kind_by b p q y s e =
     let P : Type 0 = Was ImportKinds p y in
@@ -258,9 +252,9 @@ export_reads =
     (λ x b r d. subst (λ x. Exports x b r) (sym d.3) d.4) (λ x b r d. (x.name, x.kind, x.index, refl, d))
     (map3 export_from Name (λ x. Byte (export_byte x)) U32 name (λ p. one_of export_kind_of p) u32 name_reads export_kind_reads u32_reads)
 
-pub start_reads : Reads Starts start
-unfolding start
-start_reads = map1 Some U32 u32 u32_reads
+pub number_reads : Reads Number number
+unfolding number
+number_reads = map1 Some U32 u32 u32_reads
 
 -- segments
 abbrev element_from : ℕ → List Instr → List ℕ → Element
@@ -276,12 +270,56 @@ element_reads =
 abbrev piece_from : ℕ → List Instr → List ℕ → Piece
 piece_from index offset content = record { index = index; offset = record { items = offset }; bytes = content }
 
-pub piece_reads : Reads Pieces piece
+piece_reads : Reads Pieces piece
 unfolding piece
 piece_reads =
     along (Made3 piece_from U32 Expr Bytes) Pieces (λ p. u32 p >>= λ a. expr a.1 >>= λ b. bytes b.1 >>= λ c. Ok (piece_from a.0 b.0 c.0, c.1))
     (λ x b r d. subst (λ x. Pieces x b r) (sym d.3) d.4) (λ x b r d. (x.index, x.offset.items, x.bytes, refl, d))
     (map3 piece_from U32 Expr Bytes u32 expr bytes u32_reads expr_reads bytes_reads)
+
+-- as many data segments as were counted, if they were
+counts_by : (counted : Option ℕ) (n : ℕ) → is_counted counted n ≡ true → Counts counted n
+counts_by None n e = tt
+counts_by (Some k) n e = eqb-true n k e
+
+pub counts : (counted : Option ℕ) (n at : ℕ) (t : Unit {0}) → check (is_counted counted n) at ≡ Ok t → Counts counted n
+counts counted n at t e = counts_by counted n (check_ok (is_counted counted n) at t e)
+
+counted_by : (counted : Option ℕ) (n : ℕ) → Counts counted n → is_counted counted n ≡ true
+counted_by None n d = refl
+counted_by (Some k) n d = eq-eqb n k d
+
+pub is_so_many : (counted : Option ℕ) (n at : ℕ) → Counts counted n → check (is_counted counted n) at ≡ Ok tt
+is_so_many counted n at d = checked (is_counted counted n) at (counted_by counted n d)
+
+abbrev pub Data : Option ℕ → List Piece → List ℕ → List ℕ → Type 0
+Data counted xs bytes rest = Counts counted (length xs) × Vector Pieces xs bytes rest
+
+pieces_sound : (counted : Option ℕ) (p : Place) (y : List Piece × Place) → pieces counted p ≡ Ok y → Was (Data counted) p y
+unfolding pieces
+pieces_sound counted p y e =
+    let n = bind_ok (u32 p) (λ n. check (is_counted counted n.0) p.at >>= λ t. times piece n.0 n.1) y e in
+    let t = bind_ok (check (is_counted counted n.0.0) p.at) (λ t. times piece n.0.0 n.0.1) y n.2 in
+    let w = u32_reads.sound p n.0 n.1 in
+    let s = times_sound Pieces piece piece_reads n.0.0 n.0.1 y t.2 in
+    record {
+      spells = (subst (Counts counted) (sym s.0) (counts counted n.0.0 p.at t.0 t.1), (n.0.1.rest, subst (λ k. U32 k p.rest n.0.1.rest) (sym s.0) w.spells, s.1.spells));
+      shorter = omega (arith, w.shorter, s.1.shorter);
+    }
+
+pieces_complete : (counted : Option ℕ) (xs : List Piece) (p : Place) (rest : List ℕ) → Data counted xs p.rest rest → (at : ℕ) × (pieces counted p ≡ Ok (xs, here rest at))
+unfolding pieces
+pieces_complete counted xs p rest d =
+    let c = u32_reads.complete (length xs) p d.1.0 d.1.1 in
+    let q = here d.1.0 c.0 in
+    let b = times_complete Pieces piece piece_reads xs q rest d.1.2 in (
+      b.0,
+      bind (u32 p) (λ n. check (is_counted counted n.0) p.at >>= λ t. times piece n.0 n.1) (length xs, q) c.1
+          ∙ (bind (check (is_counted counted (length xs)) p.at) (λ t. times piece (length xs) q) tt (is_so_many counted (length xs) p.at d.0) ∙ b.1),
+    )
+
+pub pieces_reads : (counted : Option ℕ) → Reads (Data counted) (pieces counted)
+pieces_reads counted = record { sound = pieces_sound counted; complete = pieces_complete counted }
 
 -- bodies
 bodies_sound : (f n : ℕ) (p : Place) (y : List Body × Place) → bodies f n p ≡ Ok y → (length y.0 ≡ n) × Was (Members (Sized IsBody)) p y

@@ -1,3 +1,7 @@
 pub mod Entries
 pub mod Greedy
 pub mod Whole
+pub mod Passing
+pub mod Numbered
+pub mod Answered
+pub mod Moving

@@ -1,6 +1,6 @@
 -- Sections and modules: what is read is spelled so, and what is spelled so is read.
 use Rattle.std.proofs.Common.{◌≡◌, ℕ, zero, suc, ◌+◌, ◌<◌, ◌≤◌, Bool, true, false, List, [], ◌∷◌, ◌++◌, length, take, drop, Result, Ok, Err, refl, sym, ap, ◌∙◌, subst, arith, inl, inr}
-use Rattle.std.specs.Prelude.{Option, Some, None, nat_eq, if◌then◌else◌}
+use Rattle.std.specs.Prelude.{Option, Some, None, ◌⊎◌, nat_eq, if◌then◌else◌}
 use Rattle.std.specs.List.{starts_with}
 use Rattle.std.specs.Cmp.Lexicographic.{same_text}
 use Rattle.std.proofs.lemmas.List.{nil_from_length, drop_at, take-append-drop}
@@ -22,12 +22,12 @@ use Rattle.wasm_code.specs.Spelling.{U32, Vector, Sized}
 use Rattle.wasm_code.specs.Grammar.{IsBody}
 use Rattle.wasm_code.proofs.Joined.{bind, bind_ok, ok_is, check_ok, checked, here, Was, Reads}
 use Rattle.wasm_code.proofs.Fielded.{u32_reads, vector_reads, sized_reads, range_sound, range_complete, ended_nil, name_reads}
-use Rattle.wasm_decode.specs.Parts.{func_type, import, table, memory_type, global, export, start, element, piece, code}
-use Rattle.wasm_decode.specs.Sections.{exactly, custom, after_id_of, after_id, customs_by, customs, all_customs, section_by, section, sections, module_of}
-use Rattle.wasm_decode.specs.Spelling.{FuncTypes, Imports, Tables, MemoryTypes, Globals, Exports, Starts, Elements, Pieces, magic, version}
-use Rattle.wasm_decode.specs.Grammar.{Custom, Spells}
+use Rattle.wasm_decode.specs.Parts.{func_type, import, table, memory_type, global, export, number, element, pieces, is_counted, code}
+use Rattle.wasm_decode.specs.Sections.{exactly, custom, after_id_of, after_id, customs_by, customs, all_customs, section_by, section, last, sections, module_of, Fails}
+use Rattle.wasm_decode.specs.Spelling.{FuncTypes, Imports, Tables, MemoryTypes, Globals, Exports, Number, Elements, Pieces, magic, version}
+use Rattle.wasm_decode.specs.Grammar.{Custom, Counts, Spells}
 use Rattle.wasm_decode.proofs.Greedy.{NotAt, Customs, none, more, Sections, Section, C1, tight, loosen1}
-use Rattle.wasm_decode.proofs.Entries.{func_type_reads, import_reads, table_reads, memory_type_reads, global_reads, export_reads, start_reads, element_reads, piece_reads, Code, code_reads}
+use Rattle.wasm_decode.proofs.Entries.{func_type_reads, import_reads, table_reads, memory_type_reads, global_reads, export_reads, number_reads, element_reads, Data, pieces_reads, counts, is_so_many, Code, code_reads}
 
 -- ids
 test_none : (t : Bool) (q : Place) → (if t then Some q else None) ≡ None → t ≡ false
@@ -71,7 +71,7 @@ met : (id : ℕ) (p : Place) (tail : List ℕ) → p.rest ≡ id ∷ tail → af
 unfolding after_id
 met id p tail h = ap (λ b. after_id_of id b p.at) h ∙ is_some id tail p.at
 
-after_shorter : (id : ℕ) (p q : Place) → after_id id p ≡ Some q → length q.rest < length p.rest
+pub after_shorter : (id : ℕ) (p q : Place) → after_id id p ≡ Some q → length q.rest < length p.rest
 after_shorter id p q e = omega (arith, ap length (stands id p q e))
 
 -- custom sections
@@ -168,7 +168,7 @@ section_complete id G read absent a x p rest d =
 section_reads : {X : Type 0} (id : ℕ) (G : X → List ℕ → List ℕ → Type 0) (read : Place → Reading X) (absent : X) → Reads G read → Reads (Section id G absent) (section id read absent)
 section_reads id G read absent a = record { sound = section_sound id G read absent a; complete = section_complete id G read absent a }
 
--- the eleven
+-- the twelve
 first : Reads (Section 1 (Vector FuncTypes) []) (section 1 (vector func_type) [])
 first = section_reads 1 (Vector FuncTypes) (vector func_type) [] (vector_reads FuncTypes func_type func_type_reads)
 
@@ -190,8 +190,8 @@ sixth = section_reads 6 (Vector Globals) (vector global) [] (vector_reads Global
 seventh : Reads (Section 7 (Vector Exports) []) (section 7 (vector export) [])
 seventh = section_reads 7 (Vector Exports) (vector export) [] (vector_reads Exports export export_reads)
 
-eighth : Reads (Section 8 Starts None) (section 8 start None)
-eighth = section_reads 8 Starts start None start_reads
+eighth : Reads (Section 8 Number None) (section 8 number None)
+eighth = section_reads 8 Number number None number_reads
 
 ninth : Reads (Section 9 (Vector Elements) []) (section 9 (vector element) [])
 ninth = section_reads 9 (Vector Elements) (vector element) [] (vector_reads Elements element element_reads)
@@ -199,8 +199,11 @@ ninth = section_reads 9 (Vector Elements) (vector element) [] (vector_reads Elem
 tenth : (n : ℕ) → Reads (Section 10 (Code n) []) (section 10 (code n) [])
 tenth n = section_reads 10 (Code n) (code n) [] (code_reads n)
 
-eleventh : Reads (Section 11 (Vector Pieces) []) (section 11 (vector piece) [])
-eleventh = section_reads 11 (Vector Pieces) (vector piece) [] (vector_reads Pieces piece piece_reads)
+twelfth : Reads (Section 12 Number None) (section 12 number None)
+twelfth = section_reads 12 Number number None number_reads
+
+eleventh : (counted : Option ℕ) → Reads (Section 11 (Data counted) []) (section 11 (pieces counted) [])
+eleventh counted = section_reads 11 (Data counted) (pieces counted) [] (pieces_reads counted)
 
 -- the count of the bodies is known
 to_vector_at : (n : ℕ) (xs : List Body) (bytes rest : List ℕ) → Sections 10 (Code n) [] xs bytes rest → Sections 10 (Vector (Sized IsBody)) [] xs bytes rest
@@ -217,13 +220,37 @@ to_vector n xs bytes rest d = (d.0, d.1, to_vector_at n xs d.0 rest d.2)
 from_vector : (n : ℕ) (xs : List Body) (bytes rest : List ℕ) → length xs ≡ n → Section 10 (Vector (Sized IsBody)) [] xs bytes rest → Section 10 (Code n) [] xs bytes rest
 from_vector n xs bytes rest e d = (d.0, d.1, from_vector_at n xs d.0 rest e d.2)
 
+-- the count of the data segments is known, if they were counted
+data_to_at : (k : Option ℕ) (xs : List Piece) (bytes rest : List ℕ) → Sections 11 (Data k) [] xs bytes rest → Sections 11 (Vector Pieces) [] xs bytes rest
+data_to_at k xs bytes rest (inl d) = inl d
+data_to_at k xs bytes rest (inr d) = inr (d.0, d.1, (d.2.0, d.2.1, d.2.2.1))
+
+data_from_at : (k : Option ℕ) (xs : List Piece) (bytes rest : List ℕ) → Counts k (length xs) → Sections 11 (Vector Pieces) [] xs bytes rest → Sections 11 (Data k) [] xs bytes rest
+data_from_at k xs bytes rest e (inl d) = inl d
+data_from_at k xs bytes rest e (inr d) = inr (d.0, d.1, (d.2.0, d.2.1, (e, d.2.2)))
+
+data_to : (k : Option ℕ) (xs : List Piece) (bytes rest : List ℕ) → Section 11 (Data k) [] xs bytes rest → Section 11 (Vector Pieces) [] xs bytes rest
+data_to k xs bytes rest d = (d.0, d.1, data_to_at k xs d.0 rest d.2)
+
+data_from : (k : Option ℕ) (xs : List Piece) (bytes rest : List ℕ) → Counts k (length xs) → Section 11 (Vector Pieces) [] xs bytes rest → Section 11 (Data k) [] xs bytes rest
+data_from k xs bytes rest e d = (d.0, d.1, data_from_at k xs d.0 rest e d.2)
+
 -- the sections of a module
-abbrev AllSections : Module → List ℕ → Type 0
-AllSections m bytes = (length m.bodies ≡ length m.functions) × C1 m bytes []
+record AllSections (m : Module) (bytes : List ℕ) : Type 0 where
+  counted : Option ℕ
+  bodies : length m.bodies ≡ length m.functions
+  counts : Counts counted (length m.pieces)
+  left : C1 m counted bytes []
 
 took : {A B P : Type 0} (r : Result A DecodeError) (f : A → Result B DecodeError) (y : B) → (r >>= f) ≡ Ok y → ((x : A) → r ≡ Ok x → f x ≡ Ok y → P) → P
 took (Ok x) f y e k = k x refl e
 took (Err d) f y e k = absurd cc
+
+last_sound : (p q : Place) → last p ≡ Ok q → Customs p.rest []
+last_sound p q e =
+    let c = bind_ok (all_customs p) (λ q. ended q >>= λ t. Ok q) q e in
+    let t = bind_ok (ended c.0) (λ t. Ok c.0) q c.2 in
+    subst (Customs p.rest) (ended_nil c.0 t.0 t.1) (all_sound p c.0 c.1).spells
 
 sections_sound : (p : Place) (m : Module) → sections p ≡ Ok m → AllSections m p.rest
 unfolding sections
@@ -235,13 +262,14 @@ sections_sound p m e =
     took (section 5 (vector memory_type) [] tables.1) _ m tables_left (λ (memories : List MemoryType × Place) is_memories memories_left.
     took (section 6 (vector global) [] memories.1) _ m memories_left (λ (globals : List GlobalVar × Place) is_globals globals_left.
     took (section 7 (vector export) [] globals.1) _ m globals_left (λ (exports : List Export × Place) is_exports exports_left.
-    took (section 8 start None exports.1) _ m exports_left (λ (begins : Option ℕ × Place) is_begins begins_left.
+    took (section 8 number None exports.1) _ m exports_left (λ (begins : Option ℕ × Place) is_begins begins_left.
     took (section 9 (vector element) [] begins.1) _ m begins_left (λ (elements : List Element × Place) is_elements elements_left.
-    took (section 10 (code (length functions.0)) [] elements.1) _ m elements_left (λ (bodies : List Body × Place) is_bodies bodies_left.
-    took (section 11 (vector piece) [] bodies.1) _ m bodies_left (λ (pieces : List Piece × Place) is_pieces pieces_left.
-    took (all_customs pieces.1) _ m pieces_left (λ (q : Place) is_q q_left.
-    took (ended q) _ m q_left (λ (t : Unit {0}) is_t t_left.
-    took (check (nat_eq (length bodies.0) (length functions.0)) q.at) _ m t_left (λ (u : Unit {0}) is_u u_left. (
+    took (section 12 number None elements.1) _ m elements_left (λ (counted : Option ℕ × Place) is_counted_ counted_left.
+    took (section 10 (code (length functions.0)) [] counted.1) _ m counted_left (λ (bodies : List Body × Place) is_bodies bodies_left.
+    took (section 11 (pieces counted.0) [] bodies.1) _ m bodies_left (λ (segments : List Piece × Place) is_segments segments_left.
+    took (last segments.1) _ m segments_left (λ (q : Place) is_q q_left.
+    took (check (nat_eq (length bodies.0) (length functions.0)) q.at) _ m q_left (λ (u : Unit {0}) is_u u_left.
+    took (check (is_counted counted.0 (length segments.0)) q.at) _ m u_left (λ (v : Unit {0}) is_v v_left. (
     subst (λ (m : Module). AllSections m p.rest) (ok_is (record {
       types = types.0;
       imports = imports.0;
@@ -252,11 +280,13 @@ sections_sound p m e =
       exports = exports.0;
       start = begins.0;
       elements = elements.0;
-      pieces = pieces.0;
+      pieces = segments.0;
       bodies = bodies.0;
-    }) m u_left) (
-      eqb-true (length bodies.0) (length functions.0) (check_ok (nat_eq (length bodies.0) (length functions.0)) q.at u is_u),
-      (
+    }) m v_left) (record {
+      counted = counted.0;
+      bodies = eqb-true (length bodies.0) (length functions.0) (check_ok (nat_eq (length bodies.0) (length functions.0)) q.at u is_u);
+      counts = counts counted.0 (length segments.0) q.at v is_v;
+      left = (
         types.1.rest,
         (first.sound p types is_types).spells,
         (
@@ -284,12 +314,16 @@ sections_sound p m e =
                         elements.1.rest,
                         (ninth.sound begins.1 elements is_elements).spells,
                         (
-                          bodies.1.rest,
-                          to_vector (length functions.0) bodies.0 elements.1.rest bodies.1.rest ((tenth (length functions.0)).sound elements.1 bodies is_bodies).spells,
+                          counted.1.rest,
+                          (twelfth.sound elements.1 counted is_counted_).spells,
                           (
-                            pieces.1.rest,
-                            (eleventh.sound bodies.1 pieces is_pieces).spells,
-                            subst (Customs pieces.1.rest) (ended_nil q t is_t) (all_sound pieces.1 q is_q).spells,
+                            bodies.1.rest,
+                            to_vector (length functions.0) bodies.0 counted.1.rest bodies.1.rest ((tenth (length functions.0)).sound counted.1 bodies is_bodies).spells,
+                            (
+                              segments.1.rest,
+                              data_to counted.0 segments.0 bodies.1.rest segments.1.rest ((eleventh counted.0).sound bodies.1 segments is_segments).spells,
+                              last_sound segments.1 q is_q,
+                            ),
                           ),
                         ),
                       ),
@@ -300,7 +334,8 @@ sections_sound p m e =
             ),
           ),
         ),
-      ),
+      );
+    })
     ))))))))))))))))
 
 ok_by : {A B : Type 0} (r : Result A DecodeError) (f : A → Result B DecodeError) (x : A) (y : B) → r ≡ Ok x → f x ≡ Ok y → (r >>= f) ≡ Ok y
@@ -310,7 +345,8 @@ sections_complete : (m : Module) (p : Place) → AllSections m p.rest → sectio
 unfolding sections
 sections_complete m p d =
     let n = length m.functions in
-    let d1 = d.1 in
+    let k = d.counted in
+    let d1 = d.left in
     let c1 = first.complete m.types p d1.0 d1.1 in let p1 = here d1.0 c1.0 in let d2 = d1.2 in
     let c2 = second.complete m.imports p1 d2.0 d2.1 in let p2 = here d2.0 c2.0 in let d3 = d2.2 in
     let c3 = third.complete m.functions p2 d3.0 d3.1 in let p3 = here d3.0 c3.0 in let d4 = d3.2 in
@@ -319,11 +355,12 @@ sections_complete m p d =
     let c6 = sixth.complete m.globals p5 d6.0 d6.1 in let p6 = here d6.0 c6.0 in let d7 = d6.2 in
     let c7 = seventh.complete m.exports p6 d7.0 d7.1 in let p7 = here d7.0 c7.0 in let d8 = d7.2 in
     let c8 = eighth.complete m.start p7 d8.0 d8.1 in let p8 = here d8.0 c8.0 in let d9 = d8.2 in
-    let c9 = ninth.complete m.elements p8 d9.0 d9.1 in let p9 = here d9.0 c9.0 in let d10 = d9.2 in
-    let c10 = (tenth n).complete m.bodies p9 d10.0 (from_vector n m.bodies d9.0 d10.0 d.0 d10.1) in let p10 = here d10.0 c10.0 in let d11 = d10.2 in
-    let c11 = eleventh.complete m.pieces p10 d11.0 d11.1 in let p11 = here d11.0 c11.0 in
-    let c12 = all_complete p11 [] d11.2 in let q = here [] c12.0 in
-    let counted = checked (nat_eq (length m.bodies) n) q.at (eq-eqb (length m.bodies) n d.0) in
+    let c9 = ninth.complete m.elements p8 d9.0 d9.1 in let p9 = here d9.0 c9.0 in let d12 = d9.2 in
+    let c12 = twelfth.complete k p9 d12.0 d12.1 in let p12 = here d12.0 c12.0 in let d10 = d12.2 in
+    let c10 = (tenth n).complete m.bodies p12 d10.0 (from_vector n m.bodies d12.0 d10.0 d.bodies d10.1) in let p10 = here d10.0 c10.0 in let d11 = d10.2 in
+    let c11 = (eleventh k).complete m.pieces p10 d11.0 (data_from k m.pieces d10.0 d11.0 d.counts d11.1) in let p11 = here d11.0 c11.0 in
+    let c13 = all_complete p11 [] d11.2 in let q = here [] c13.0 in
+    let as_many = checked (nat_eq (length m.bodies) n) q.at (eq-eqb (length m.bodies) n d.bodies) in
     ok_by (section 1 (vector func_type) [] p) _ (m.types, p1) m c1.1
     (ok_by (section 2 (vector import) [] p1) _ (m.imports, p2) m c2.1
     (ok_by (section 3 (vector u32) [] p2) _ (m.functions, p3) m c3.1
@@ -331,15 +368,17 @@ sections_complete m p d =
     (ok_by (section 5 (vector memory_type) [] p4) _ (m.memories, p5) m c5.1
     (ok_by (section 6 (vector global) [] p5) _ (m.globals, p6) m c6.1
     (ok_by (section 7 (vector export) [] p6) _ (m.exports, p7) m c7.1
-    (ok_by (section 8 start None p7) _ (m.start, p8) m c8.1
+    (ok_by (section 8 number None p7) _ (m.start, p8) m c8.1
     (ok_by (section 9 (vector element) [] p8) _ (m.elements, p9) m c9.1
-    (ok_by (section 10 (code n) [] p9) _ (m.bodies, p10) m c10.1
-    (ok_by (section 11 (vector piece) [] p10) _ (m.pieces, p11) m c11.1
-    (ok_by (all_customs p11) _ q m c12.1
-    (ok_by (check (nat_eq (length m.bodies) n) q.at) _ tt m counted refl))))))))))))
+    (ok_by (section 12 number None p9) _ (k, p12) m c12.1
+    (ok_by (section 10 (code n) [] p12) _ (m.bodies, p10) m c10.1
+    (ok_by (section 11 (pieces k) [] p10) _ (m.pieces, p11) m c11.1
+    (ok_by (last p11) _ q m (bind (all_customs p11) (λ q. ended q >>= λ t. Ok q) q c13.1)
+    (ok_by (check (nat_eq (length m.bodies) n) q.at) _ tt m as_many
+    (ok_by (check (is_counted k (length m.pieces)) q.at) _ tt m (is_so_many k (length m.pieces) q.at d.counts) refl))))))))))))))
 
 -- the header
-exactly_sound : (front : List ℕ) (p q : Place) → exactly front p ≡ Ok q → p.rest ≡ front ++ q.rest
+pub exactly_sound : (front : List ℕ) (p q : Place) → exactly front p ≡ Ok q → p.rest ≡ front ++ q.rest
 exactly_sound front p q e =
     let k = length front in
     let t = bind_ok (check (starts_with nat_eq p.rest front) p.at) (λ t. Ok (past k p)) q e in
@@ -359,15 +398,16 @@ module_sound bytes m e =
     let p = bind_ok (exactly magic (here bytes 0)) (λ p. exactly version p >>= λ q. sections q) m e in
     let q = bind_ok (exactly version p.0) (λ q. sections q) m p.2 in
     let s = sections_sound q.0 m q.2 in
-    (s.0, (q.0.rest, exactly_sound magic (here bytes 0) p.0 p.1 ∙ ap (λ r. magic ++ r) (exactly_sound version p.0 q.0 q.1), loosen1 m q.0.rest s.1))
+    (s.bodies, (s.counted, s.counts, q.0.rest, exactly_sound magic (here bytes 0) p.0 p.1 ∙ ap (λ r. magic ++ r) (exactly_sound version p.0 q.0 q.1), loosen1 m s.counted q.0.rest s.left))
 
 pub module_complete : (bytes : List ℕ) (m : Module) → Spells m bytes → module_of bytes ≡ Ok m
 module_complete bytes m d =
-    let body = d.1.0 in
+    let body = d.1.2 in
+    let all : AllSections m body = record { counted = d.1.0; bodies = d.0; counts = d.1.1; left = tight m d.1.0 body d.1.4 } in
     let p = here (version ++ body) 4 in
     let q = here body 8 in
-    bind (exactly magic (here bytes 0)) (λ p. exactly version p >>= λ q. sections q) p (exactly_complete magic (here bytes 0) (version ++ body) refl d.1.1)
-    ∙ (bind (exactly version p) (λ q. sections q) q (exactly_complete version p body refl refl) ∙ sections_complete m q (d.0, tight m body d.1.2))
+    bind (exactly magic (here bytes 0)) (λ p. exactly version p >>= λ q. sections q) p (exactly_complete magic (here bytes 0) (version ++ body) refl d.1.3)
+    ∙ (bind (exactly version p) (λ q. sections q) q (exactly_complete version p body refl refl) ∙ sections_complete m q all)
 
 pub module_one : (bytes : List ℕ) (m n : Module) → Spells m bytes → Spells n bytes → m ≡ n
 module_one bytes m n d k = ok_is m n (sym (module_complete bytes m d) ∙ module_complete bytes n k)
@@ -375,5 +415,18 @@ module_one bytes m n d k = ok_is m n (sym (module_complete bytes m d) ∙ module
 ok_err : {A : Type 0} (x : A) (e : DecodeError) → ◌≡◌ {A = Result A DecodeError} (Ok x) (Err e) → ⊥
 ok_err x e h = absurd cc
 
-pub module_or_fault : (bytes : List ℕ) (m : Module) (e : DecodeError) → Spells m bytes → module_of bytes ≡ Err e → ⊥
+pub module_or_fault : (bytes : List ℕ) (m : Module) (e : DecodeError) → Spells m bytes → Fails bytes e → ⊥
 module_or_fault bytes m e d h = ok_err m e (sym (module_complete bytes m d) ∙ h)
+
+either_by : (bytes : List ℕ) (r : Result Module DecodeError) → module_of bytes ≡ r → ((m : Module) × Spells m bytes) ⊎ ((e : DecodeError) × Fails bytes e)
+either_by bytes (Ok m) h = inl (m, module_sound bytes m h)
+either_by bytes (Err e) h = inr (e, h)
+
+pub module_either : (bytes : List ℕ) → ((m : Module) × Spells m bytes) ⊎ ((e : DecodeError) × Fails bytes e)
+module_either bytes = either_by bytes (module_of bytes) refl
+
+err_same : {A : Type 0} (d e : DecodeError) → ◌≡◌ {A = Result A DecodeError} (Err d) (Err e) → d ≡ e
+err_same d e h = cc
+
+pub one_fault : (bytes : List ℕ) (d e : DecodeError) → Fails bytes d → Fails bytes e → d ≡ e
+one_fault bytes d e h k = err_same d e (sym h ∙ k)

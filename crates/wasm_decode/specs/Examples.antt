@@ -3,13 +3,15 @@ use Rattle.std.specs.Prelude.{ℕ, true, List, [], ◌∷◌, ◌++◌, codes, S
 use Rattle.wasm_ast.specs.declared.val_types.ValType.TheVariants.{I32}
 use Rattle.wasm_ast.specs.declared.imports.ImportKind.TheVariants as import_kind
 use Rattle.wasm_ast.specs.declared.exports.ExportKind.TheVariants as export_kind
+use Rattle.wasm_ast.specs.declared.trees.Instr.{Instr}
 use Rattle.wasm_ast.specs.declared.trees.Instr.TheVariants as V
 use Rattle.wasm_ast.specs.declared.modules.Module.{Module}
 use Rattle.wasm_code.specs.Examples.{hex, endless}
 
 -- a module whose function `handle` is a loop without an end
 abbrev pub spin_bytes : List ℕ
-spin_bytes = hex (codes "0061736d01000000" ++ codes "010401600000" ++ codes "03020100" ++ codes "070a010668616e646c650000" ++ codes "0a0901070003400c000b0b")
+spin_bytes = hex (codes "0061736d01000000" ++ codes "010401600000" ++ codes "03020100" ++ codes "070a010668616e646c650000"
+    ++ codes "0a0901070003400c000b0b")
 
 abbrev pub spin : Module
 spin = record {
@@ -28,7 +30,8 @@ spin = record {
 
 -- the same with `f32.const 0`, dropped, in place of the loop
 abbrev pub float_bytes : List ℕ
-float_bytes = hex (codes "0061736d01000000" ++ codes "010401600000" ++ codes "03020100" ++ codes "070a010668616e646c650000" ++ codes "0a0a01080043000000001a0b")
+float_bytes = hex (codes "0061736d01000000" ++ codes "010401600000" ++ codes "03020100" ++ codes "070a010668616e646c650000"
+    ++ codes "0a0a01080043000000001a0b")
 
 abbrev pub float : Module
 float = record spin { bodies = record { locals = []; code = record { items = V.F32Const 0 ∷ V.Drop ∷ [] } } ∷ [] }
@@ -41,7 +44,8 @@ echo_bytes = hex (codes "0061736d01000000" ++ codes "010f0360027f7f017f60027f7f0
 
 abbrev pub echo : Module
 echo = record {
-  types = record { params = I32 ∷ I32 ∷ []; results = I32 ∷ [] } ∷ record { params = I32 ∷ I32 ∷ []; results = [] } ∷ record { params = []; results = [] } ∷ [];
+  types = record { params = I32 ∷ I32 ∷ []; results = I32 ∷ [] } ∷ record { params = I32 ∷ I32 ∷ []; results = [] }
+      ∷ record { params = []; results = [] } ∷ [];
   imports = record { «module» = codes "trapeze"; name = codes "input"; kind = import_kind.Function 0 }
       ∷ record { «module» = codes "trapeze"; name = codes "reply"; kind = import_kind.Function 1 } ∷ [];
   functions = 2 ∷ [];
@@ -67,9 +71,36 @@ built = record echo {
   tables = record { minimum = 1; maximum = Some 1 } ∷ [];
   memories = record { minimum = 17; maximum = None } ∷ [];
   globals = record { val_type = I32; mutable = true; initial = record { items = V.I32Const 1048576 ∷ [] } } ∷ [];
-  exports = record { name = codes "memory"; kind = export_kind.Memory; index = 0 } ∷ record { name = codes "handle"; kind = export_kind.Function; index = 2 } ∷ [];
+  exports = record { name = codes "memory"; kind = export_kind.Memory; index = 0 }
+      ∷ record { name = codes "handle"; kind = export_kind.Function; index = 2 } ∷ [];
 }
 
 -- the module that replies, with other bytes for the size of its first section, which takes one
 abbrev pub with_size : List ℕ → List ℕ
 with_size size = take 9 echo_bytes ++ size ++ drop 10 echo_bytes
+
+-- a module that fills, copies and stores a few bytes, and replies with eight; with a count of its data segments
+abbrev pub fill_bytes : List ℕ
+fill_bytes = hex (codes "0061736d01000000" ++ codes "01090260027f7f00600000" ++ codes "0211010774726170657a65057265706c790000"
+    ++ codes "03020101" ++ codes "0503010001" ++ codes "070a010668616e646c650001" ++ codes "0c0100"
+    ++ codes "0a26012400410041074102fc0b00410141004102fc0a00004104418001c03602004100410810000b")
+
+abbrev pub fill_code : List Instr
+fill_code =
+    V.I32Const 0 ∷ V.I32Const 7 ∷ V.I32Const 2 ∷ V.MemoryFill ∷ V.I32Const 1 ∷ V.I32Const 0 ∷ V.I32Const 2 ∷ V.MemoryCopy
+    ∷ V.I32Const 4 ∷ V.I32Const 128 ∷ V.Num 0xc0 ∷ V.Store 0x36 2 0 ∷ V.I32Const 0 ∷ V.I32Const 8 ∷ V.Call 0 ∷ []
+
+abbrev pub fill : Module
+fill = record {
+  types = record { params = I32 ∷ I32 ∷ []; results = [] } ∷ record { params = []; results = [] } ∷ [];
+  imports = record { «module» = codes "trapeze"; name = codes "reply"; kind = import_kind.Function 0 } ∷ [];
+  functions = 1 ∷ [];
+  tables = [];
+  memories = record { minimum = 1; maximum = None } ∷ [];
+  globals = [];
+  exports = record { name = codes "handle"; kind = export_kind.Function; index = 1 } ∷ [];
+  start = None;
+  elements = [];
+  pieces = [];
+  bodies = record { locals = []; code = record { items = fill_code } } ∷ [];
+}

@@ -16,7 +16,7 @@ use Rattle.wasm_ast.specs.declared.pieces.Piece.{Piece}
 use Rattle.wasm_ast.specs.declared.bodies.Body.{Body}
 use Rattle.wasm_code.specs.declared.error.DecodeError.TheVariants.{Malformed}
 use Rattle.wasm_code.specs.Places.{Place, Reading, ◌>>=◌, byte, check}
-use Rattle.wasm_code.specs.Fields.{tag, one_of, u32, val_type, vector, sized, bytes, name}
+use Rattle.wasm_code.specs.Fields.{tag, one_of, u32, val_type, times, vector, sized, bytes, name}
 use Rattle.wasm_code.specs.Reading.{expr, body}
 
 -- a function type (5.3.3)
@@ -106,11 +106,11 @@ export p = do
   index ← u32 kind.1
   Ok (record { name = text.0; kind = kind.0; index = index.0 }, index.1)
 
--- the start function (5.5.11)
-unfoldable pub start : Place → Reading (Option ℕ)
-start p = do
-  index ← u32 p
-  Ok (Some index.0, index.1)
+-- one integer: the start function (5.5.11), or the count of the data segments (Core 2.0, 5.5.16)
+unfoldable pub number : Place → Reading (Option ℕ)
+number p = do
+  n ← u32 p
+  Ok (Some n.0, n.1)
 
 -- an element segment (5.5.12)
 unfoldable pub element : Place → Reading Element
@@ -127,6 +127,18 @@ piece p = do
   offset ← expr index.1
   content ← bytes offset.1
   Ok (record { index = index.0; offset = record { items = offset.0 }; bytes = content.0 }, content.1)
+
+-- as many as were counted before, if they were
+abbrev pub is_counted : Option ℕ → ℕ → Bool
+is_counted None n = true
+is_counted (Some counted) n = nat_eq n counted
+
+-- the data segments, whose count is the one that was told before, if it was (5.5.14; Core 2.0, 5.5.16)
+unfoldable pub pieces : Option ℕ → Place → Reading (List Piece)
+pieces counted p = do
+  n ← u32 p
+  t ← check (is_counted counted n.0) p.at
+  times piece n.0 n.1
 
 -- so many bodies, each behind its size, the first of them with the number f (5.5.13)
 unfoldable pub bodies : (f : ℕ) → ℕ → Place → Reading (List Body)

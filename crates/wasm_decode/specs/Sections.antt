@@ -1,12 +1,12 @@
 -- Reading sections from the left (WebAssembly Core 1.0, 5.5).
-use Rattle.std.specs.Prelude.{ℕ, zero, suc, ◌+◌, nat_eq, if◌then◌else◌, List, [], ◌∷◌, length, Option, Some, None, Result, Ok}
+use Rattle.std.specs.Prelude.{ℕ, zero, suc, ◌+◌, nat_eq, if◌then◌else◌, List, [], ◌∷◌, length, Option, Some, None, Result, Ok, Err, ◌≡◌}
 use Rattle.std.specs.List.{starts_with}
 use Rattle.wasm_ast.specs.declared.modules.Module.{Module}
 use Rattle.wasm_code.specs.declared.error.DecodeError.{DecodeError}
 use Rattle.wasm_code.specs.Places.{Place, Reading, ◌>>=◌, past, check, ended}
 use Rattle.wasm_code.specs.Fields.{u32, vector, sized, range, name}
 use Rattle.wasm_decode.specs.Spelling.{magic, version}
-use Rattle.wasm_decode.specs.Parts.{func_type, import, table, memory_type, global, export, start, element, piece, code}
+use Rattle.wasm_decode.specs.Parts.{func_type, import, table, memory_type, global, export, number, element, pieces, is_counted, code}
 
 -- these bytes, as one field
 abbrev pub exactly : List ℕ → Place → Result Place DecodeError
@@ -54,7 +54,14 @@ section id read absent p = do
   q ← all_customs p
   section_by read absent q (after_id id q)
 
--- Sections come in this order, each at most once. There are as many bodies as functions.
+-- the end of the file, behind custom sections
+abbrev pub last : Place → Result Place DecodeError
+last p = do
+  q ← all_customs p
+  t ← ended q
+  Ok q
+
+-- Sections come in this order, each at most once. There are as many bodies as functions, and data segments as were counted.
 unfoldable pub sections : Place → Result Module DecodeError
 sections p = do
   types ← section 1 (vector func_type) [] p
@@ -64,13 +71,14 @@ sections p = do
   memories ← section 5 (vector memory_type) [] tables.1
   globals ← section 6 (vector global) [] memories.1
   exports ← section 7 (vector export) [] globals.1
-  begins ← section 8 start None exports.1
+  begins ← section 8 number None exports.1
   elements ← section 9 (vector element) [] begins.1
-  bodies ← section 10 (code (length functions.0)) [] elements.1
-  pieces ← section 11 (vector piece) [] bodies.1
-  q ← all_customs pieces.1
-  t ← ended q
+  counted ← section 12 number None elements.1
+  bodies ← section 10 (code (length functions.0)) [] counted.1
+  segments ← section 11 (pieces counted.0) [] bodies.1
+  q ← last segments.1
   t ← check (nat_eq (length bodies.0) (length functions.0)) q.at
+  t ← check (is_counted counted.0 (length segments.0)) q.at
   Ok (record {
     types = types.0;
     imports = imports.0;
@@ -81,13 +89,21 @@ sections p = do
     exports = exports.0;
     start = begins.0;
     elements = elements.0;
-    pieces = pieces.0;
+    pieces = segments.0;
     bodies = bodies.0;
   })
+
+-- a file from its beginning
+abbrev pub whole : List ℕ → Place
+whole bytes = record { rest = bytes; at = 0 }
 
 -- the module that these bytes spell, or the first fault (5.5.15)
 abbrev pub module_of : List ℕ → Result Module DecodeError
 module_of bytes = do
-  p ← exactly magic (record { rest = bytes; at = 0 })
+  p ← exactly magic (whole bytes)
   q ← exactly version p
   sections q
+
+-- the first fault of these bytes
+abbrev pub Fails : List ℕ → DecodeError → Type 0
+Fails bytes fault = module_of bytes ≡ Err fault

@@ -65,9 +65,9 @@ export_byte export_kind.Global = 0x03
 abbrev pub Exports : Export → List ℕ → List ℕ → Type 0
 Exports e bytes rest = Then (Name e.name) (Then (Byte (export_byte e.kind)) (U32 e.index)) bytes rest
 
--- the start function (5.5.11)
-abbrev pub Starts : Option ℕ → List ℕ → List ℕ → Type 0
-Starts start bytes rest = (index : ℕ) × (start ≡ Some index) × U32 index bytes rest
+-- one integer: the start function (5.5.11), or the count of the data segments (Core 2.0, 5.5.16)
+abbrev pub Number : Option ℕ → List ℕ → List ℕ → Type 0
+Number found bytes rest = (n : ℕ) × (found ≡ Some n) × U32 n bytes rest
 
 -- element segments (5.5.12)
 abbrev pub Elements : Element → List ℕ → List ℕ → Type 0

@@ -1,30 +1,40 @@
 //! What follows from the definitions.
 
-ghost use Rattle.std.specs.Prelude.{ℕ, ◌≡◌, List, ◌∷◌, [], take, Ok, Err};
+ghost use Rattle.std.specs.Prelude.{ℕ, ◌≡◌, ◌⊎◌, List, ◌∷◌, [], take, Ok, Err};
 ghost use Rattle.wasm_ast.specs.declared.modules.Module.{Module};
 ghost use Rattle.wasm_code.specs.declared.error.DecodeError.{DecodeError};
 ghost use Rattle.wasm_code.specs.declared.error.DecodeError.TheVariants.{Malformed};
+ghost use Rattle.wasm_code.specs.Agreement.{IsWithin};
 ghost use Rattle.wasm_decode.specs.Examples.{spin_bytes, spin, float_bytes, float, echo_bytes, echo, built_bytes, built, with_size};
+ghost use Rattle.wasm_decode.specs.Examples.{fill_bytes, fill};
 ghost use Rattle.wasm_decode.specs.Grammar.{Spells};
-ghost use Rattle.wasm_decode.specs.Sections.{module_of};
+ghost use Rattle.wasm_decode.specs.Sections.{Fails, module_of, whole};
 
-/// The grammar and the reading from the left agree: a module is read exactly where the bytes spell it,
-/// no bytes spell two, and where a fault is found they spell none.
+/// The grammar and the reading from the left agree: a module is read exactly where the bytes spell it.
 pub fn reads_what_is_spelled()
     ensures sound { (bytes : List ℕ) (m : Module) → module_of bytes ≡ Ok m → Spells m bytes }
     ensures complete { (bytes : List ℕ) (m : Module) → Spells m bytes → module_of bytes ≡ Ok m }
-    ensures one { (bytes : List ℕ) (m n : Module) → Spells m bytes → Spells n bytes → m ≡ n }
-    ensures not_both { (bytes : List ℕ) (m : Module) (e : DecodeError) → Spells m bytes → module_of bytes ≡ Err e → ⊥ }
 {}
 
-/// Modules are read from their bytes: a loop without an end, a float, a reply with its input, and that in a longer form,
-/// which its bytes spell.
+/// Each list of bytes spells exactly one module, or has exactly one fault; and an offset in the fault is one of the file, or its end.
+pub fn spells_or_fails()
+    ensures either { (bytes : List ℕ) → ((m : Module) × Spells m bytes) ⊎ ((fault : DecodeError) × Fails bytes fault) }
+    ensures one_module { (bytes : List ℕ) (m n : Module) → Spells m bytes → Spells n bytes → m ≡ n }
+    ensures one_fault { (bytes : List ℕ) (d e : DecodeError) → Fails bytes d → Fails bytes e → d ≡ e }
+    ensures not_both { (bytes : List ℕ) (m : Module) (e : DecodeError) → Spells m bytes → Fails bytes e → ⊥ }
+    ensures within { (bytes : List ℕ) (e : DecodeError) → Fails bytes e → IsWithin (whole bytes) e }
+{}
+
+/// Modules are read from their bytes: a loop without an end, a float, a reply with its input, that in a longer form, which its
+/// bytes spell, and one that fills and copies memory, with a count of data segments.
 pub fn reads_modules()
     ensures endless { module_of spin_bytes ≡ Ok spin }
     ensures with_float { module_of float_bytes ≡ Ok float }
     ensures replies { module_of echo_bytes ≡ Ok echo }
     ensures longer { module_of built_bytes ≡ Ok built }
     ensures spelled { Spells built built_bytes }
+    ensures fills { module_of fill_bytes ≡ Ok fill }
+    ensures filled { Spells fill fill_bytes }
 {}
 
 /// A size may take five bytes, and not six. Where a module is cut, its last section is longer than what is left.
