@@ -1,0 +1,17 @@
+use Rattle.std.proofs.Common.{◌<◌, ◌^◌, arith, List, [], ◌∷◌}
+use Rattle.std.specs.Prelude.{Option}
+use Rattle.wasm_ast.specs.declared.val_types.ValType.{ValType}
+use Rattle.wasm_ast.specs.declared.val_types.ValType.TheVariants.{I32}
+use Rattle.wasm_ast.specs.declared.trees.Instr.TheOpen.{Instr-F}
+use Rattle.wasm_ast.specs.Typing.{Changes}
+use Rattle.wasm_typing.specs.Operands.{Stand, Image}
+use Rattle.wasm_typing.specs.Scopes.{Effect}
+use Rattle.wasm_typing.proofs.Effects.{if_ok, const_effect}
+use Rattle.wasm_typing.proofs.scopes.Scope.i32_const.Goals as goal
+
+pub returns : goal.returns
+returns c =
+    let s = c.args.self in
+    let old = c.args.operands.now in
+    if_ok c.exchange.result (λ ok. Image (Changes [] (I32 ∷ [])) (Stand old) (Stand c.exchange.new.self) ok) (λ ok. (ls : List (Option ValType)) → Effect s ls (Instr-F.I32Const c.args.value) old c.exchange.new.self ok)
+    (λ ok h. λ ls. const_effect (c.args.value < 2 ^ 32) I32 old c.exchange.new.self ok (omega arith) h) c.exchange.ensures

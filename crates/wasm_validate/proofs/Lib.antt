@@ -1,0 +1,7 @@
+pub mod FloatLemmas
+pub mod ConstantLemmas
+pub mod TypeLemmas
+pub mod NameLemmas
+pub mod BodyLemmas
+pub mod HostLemmas
+pub mod RefusedLemmas

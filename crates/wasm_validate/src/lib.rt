@@ -1,0 +1,15 @@
+//! Which modules are valid: floats, imports, structure, the entry point, segments, and the typing of each body.
+#![tactic(auto)]
+
+mod floats;
+mod hosts;
+mod invalid;
+mod modules;
+mod names;
+mod structure;
+
+pub use invalid::Invalid;
+pub use modules::{ValidModule, validate};
+
+#[cfg(test)]
+mod tests;
