@@ -19,7 +19,9 @@ use Rattle.wasm_ast.specs.declared.modules.Module.{Module}
 use Rattle.wasm_ast.specs.Trees.{Layer, layer}
 use Rattle.wasm_ast.specs.Spaces.{Function, own, type_of, imported_type, memory_of, least_pages, table_size, upto}
 use Rattle.wasm_ast.specs.Bytes.{placed, first_memory}
-use Rattle.wasm_ast.specs.Hosts.{HostCall, Input, Read, Write, Delete, Send, Raise, Reply, OwnLabel, host_params}
+use Rattle.wasm_ast.specs.declared.hosts.HostName.{HostName}
+use Rattle.wasm_ast.specs.declared.hosts.HostName.TheVariants.{Input, Read, Write, Delete, Send, Raise, Reply, OwnLabel, Release}
+use Rattle.wasm_ast.specs.Hosts.{host_params}
 use Rattle.wasm_ast.specs.Structure.{constant, constant_at, constant_value, value_of, is_constant_of, is_at_most, has_most_pages, is_memory, is_global, is_entry_type, is_start, is_handle, is_function}
 use Rattle.wasm_ast.specs.Validity.{Valid, handle_of, handle_fault}
 use Rattle.wasm_semantics.specs.Threads.{Frame}
@@ -97,7 +99,7 @@ pub record Entry (m : Module) (x : ℕ) : Type 0 where
   pub params : function.signature.params ≡ []
   pub results : function.signature.results ≡ []
 
-takes_some : (call : HostCall) → [] ≡ host_params call → ⊥
+takes_some : (call : HostName) → [] ≡ host_params call → ⊥
 takes_some Input e = cc
 takes_some Read e = cc
 takes_some Write e = cc
@@ -106,6 +108,7 @@ takes_some Send e = cc
 takes_some Raise e = cc
 takes_some Reply e = cc
 takes_some OwnLabel e = cc
+takes_some Release e = cc
 
 entry_by : (m : Module) (x : ℕ) (ft : FuncType) (o : Option Import) → Valid m → slice_get m.imports x ≡ o → type_of m x ≡ Some ft → ft.params ≡ [] → ft.results ≡ [] → Entry m x
 entry_by m x ft (Some i) valid e t p r =

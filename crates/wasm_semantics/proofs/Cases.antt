@@ -1,5 +1,5 @@
 -- Single units and typings that the worked examples name.
-use Rattle.std.proofs.Common.{◌≡◌, ◌+◌, ◌%◌, ◌^◌, min, ℕ, Bool, true, false, List, [], ◌∷◌, length, refl, ap, subst, ◌∙◌, arith, lit<}
+use Rattle.std.proofs.Common.{◌≡◌, ◌+◌, ◌%◌, ◌^◌, min, ℕ, Bool, true, false, List, [], ◌∷◌, length, refl, ap, subst, ◌∙◌, arith}
 use Rattle.std.specs.Prelude.{Some, None, suc, nat_lt, nat_le, if◌then◌else◌, ◌||◌, slice_get}
 use Rattle.std.proofs.lemmas.Bool.Decides.{nat_tests}
 use Rattle.wasm_ast.specs.declared.val_types.ValType.{ValType}
@@ -8,35 +8,21 @@ use Rattle.wasm_ast.specs.declared.trees.Seq.{Seq}
 use Rattle.wasm_ast.specs.declared.trees.Instr.{Instr}
 use Rattle.wasm_ast.specs.declared.trees.Instr.TheOpen.{Instr-F}
 use Rattle.wasm_ast.specs.declared.trees.Instr.TheVariants as V
-use Rattle.wasm_ast.specs.declared.memory_types.MemoryType.{MemoryType}
 use Rattle.wasm_ast.specs.declared.modules.Module.{Module}
-use Rattle.wasm_ast.specs.Trees.{layer_unreachable, layer_drop, layer_i32_const, layer_if, layer_load, layer_memory_grow, layer_call}
-use Rattle.wasm_ast.specs.Spaces.{Function, own, memory_of, most_pages}
+use Rattle.wasm_ast.specs.Trees.{layer_if, layer_load, layer_memory_grow, layer_call}
+use Rattle.wasm_ast.specs.Spaces.{Function, own, page_limit}
 use Rattle.wasm_ast.specs.Operators.{Access, load_of}
 use Rattle.wasm_ast.specs.Bytes.{loaded, in_pages, grown}
-use Rattle.wasm_ast.specs.Typing.{Context, context_of, Types, empty}
+use Rattle.wasm_ast.specs.Typing.{context_of, Types}
 use Rattle.wasm_semantics.specs.declared.traps.Trap.TheVariants as trap
-use Rattle.wasm_semantics.specs.Operators.{read_as}
-use Rattle.wasm_semantics.specs.Data.{Effect, Traps, Wrong, moves, with_some, split, set_memory, grow_by}
+use Rattle.wasm_semantics.specs.Data.{Effect, with_some, split, fetched, sized}
 use Rattle.wasm_semantics.specs.Threads.{Store, Frame, Thread, Goes, Trapped, Stuck, values_of, blocks_of}
 use Rattle.wasm_semantics.specs.Control.{Spot, first_frame, zeros, opened, call_of}
 use Rattle.wasm_semantics.specs.Units.{unit, limited, data_of, applied}
 use Rattle.wasm_semantics.specs.OfModule.{Holds, labels_of, IsFrame, IsOf}
-use Rattle.wasm_semantics.specs.Examples.{unreached_code, level, frame, lone, opened_block, ended_block, memory_alone}
-use Rattle.wasm_semantics.proofs.Steps.{before, taken, plainly, followed}
-use Rattle.wasm_ast.proofs.Typings.{plain_of, uncons}
-
-pub unreached : (c : Context) (labels : List (List ValType)) → Types c labels unreached_code [] (I32 ∷ [])
-unreached c labels =
-    followed (followed (followed (empty c labels []) (plainly {a = I32 ∷ []} Instr-F.Unreachable layer_unreachable tt)) (plainly {a = []} Instr-F.Drop layer_drop (I32, refl)))
-    (plainly (Instr-F.I32Const 1) (layer_i32_const 1) (lit< tt, refl))
-
-pub no_operand : (c : Context) (labels : List (List ValType)) (rest : List Instr) (after : List ValType) → Types c labels (V.Drop ∷ rest) [] after → ⊥
-no_operand c labels rest after t =
-    let u = uncons c labels (V.Drop ∷ rest) V.Drop rest [] after t refl in
-    let p = plain_of c labels V.Drop [] u.0 Instr-F.Drop u.1 layer_drop tt in
-    let clash = p.1 in
-    cc
+use Rattle.wasm_semantics.specs.Examples.{level, frame, lone, opened_block, ended_block, memory_alone}
+use Rattle.wasm_semantics.proofs.Steps.{taken_at, taken}
+use Rattle.wasm_ast.proofs.Worked.{no_operand}
 
 pub chooses_first : (m : Module) (pages : ℕ) (st : Store) (part other : Seq) (rest : List Instr)
     → unit m pages (lone st (level (1 ∷ []) (V.If (Some I32) part other ∷ rest) ∷ [])) ≡ Goes (lone st (opened_block part.items rest))
@@ -59,13 +45,13 @@ abbrev load_code : List Instr
 load_code = V.Load 40 2 0 ∷ []
 
 abbrev at_load : List ℕ → ℕ → Spot
-at_load bytes at = before (memory_alone bytes) (frame (level (at ∷ []) load_code ∷ [])) [] (level (at ∷ []) load_code) [] (V.Load 40 2 0) []
+at_load bytes at = taken_at (memory_alone bytes) (frame (level (at ∷ []) load_code ∷ [])) [] (level (at ∷ []) load_code) [] []
 
 abbrev word : Access
 word = record { val_type = I32; width = 4; signed = false }
 
 abbrev load_effect : List ℕ → ℕ → Bool → Effect
-load_effect bytes at past = if past then Traps trap.Memory else moves (data_of (at_load bytes at)) (read_as word bytes (at + 0) ∷ [])
+load_effect bytes at past = fetched (data_of (at_load bytes at)) word (if past then None else Some (loaded bytes (at + 0) 4)) []
 
 loads : (m : Module) (pages at : ℕ) (bytes : List ℕ) → length bytes ≡ 65536
     → unit m pages (lone (memory_alone bytes) (level (at ∷ []) load_code ∷ [])) ≡ limited (applied (at_load bytes at) (load_effect bytes at (nat_lt 65536 (at + 0 + 4))))
@@ -86,24 +72,23 @@ abbrev grow_code : List Instr
 grow_code = V.MemoryGrow ∷ []
 
 abbrev at_grow : List ℕ → Spot
-at_grow bytes = before (memory_alone bytes) (frame (level (0 ∷ []) grow_code ∷ [])) [] (level (0 ∷ []) grow_code) [] V.MemoryGrow []
+at_grow bytes = taken_at (memory_alone bytes) (frame (level (0 ∷ []) grow_code ∷ [])) [] (level (0 ∷ []) grow_code) [] []
 
 too_many : (bytes : List ℕ) (most : ℕ) → length bytes ≡ 131072 → nat_le (0 + in_pages bytes) (min 1 most) ≡ false
 too_many bytes most e = grind (arith, nat_tests)
 
-pub grows_by_nothing : (m : Module) (t : MemoryType) (bytes : List ℕ) → memory_of m ≡ Some t → length bytes ≡ 131072
+pub grows_by_nothing : (m : Module) (bytes : List ℕ) → length bytes ≡ 131072
     → unit m 1 (lone (memory_alone bytes) (level (0 ∷ []) grow_code ∷ [])) ≡ Goes (lone (memory_alone bytes) (level (4294967295 ∷ []) [] ∷ []))
-grows_by_nothing m t bytes e long =
+grows_by_nothing m bytes long =
     taken m 1 (memory_alone bytes) (frame (level (0 ∷ []) grow_code ∷ [])) [] (level (0 ∷ []) grow_code) [] V.MemoryGrow [] Instr-F.MemoryGrow refl refl layer_memory_grow
-    ∙ (ap (λ o. limited (applied (at_grow bytes) (with_some Wrong o (λ k. grow_by 1 k (data_of (at_grow bytes)) 0 [])))) e
-    ∙ ap (λ b. limited (applied (at_grow bytes) (if b then set_memory (data_of (at_grow bytes)) (grown bytes 0) (in_pages bytes ∷ []) else moves (data_of (at_grow bytes)) (4294967295 ∷ [])))) (too_many bytes (most_pages t) long))
+    ∙ ap (λ b. limited (applied (at_grow bytes) (sized (data_of (at_grow bytes)) (if b then Some (grown bytes 0) else None) []))) (too_many bytes (page_limit m) long)
 
 -- a call that opens one frame too many
 abbrev call_code : ℕ → List Instr
 call_code x = V.Call x ∷ []
 
 abbrev at_call : Store → List Frame → ℕ → Spot
-at_call st fs x = before st (frame (level [] (call_code x) ∷ [])) fs (level [] (call_code x)) [] (V.Call x) []
+at_call st fs x = taken_at st (frame (level [] (call_code x) ∷ [])) fs (level [] (call_code x)) [] []
 
 -- the frames after it
 abbrev over_frames : Function → List Frame → List Frame

@@ -1,9 +1,8 @@
 -- Instructions that only move data.
-use Rattle.std.proofs.Common.{◌≡◌, ◌≤◌, ◌+◌, ◌*◌, ℕ, List, ◌∷◌, ◌++◌, length, min, replicate, refl, sym, ap, subst, ◌∙◌, arith, length-append, lit<}
-use Rattle.std.specs.Prelude.{Option, Some, None, slice_get, slice_set, nat_eq, nat_lt, nat_le}
+use Rattle.std.proofs.Common.{◌≡◌, ◌+◌, ℕ, List, ◌∷◌, ◌++◌, length, min, refl, sym, ap, subst, ◌∙◌, arith, lit<}
+use Rattle.std.specs.Prelude.{Option, Some, None, IfSome, slice_get, slice_set, nat_eq}
 use Rattle.std.specs.Option.{option_map}
 use Rattle.std.proofs.lemmas.Option.{slice_get-map}
-use Rattle.std.proofs.lemmas.List.{length-replicate}
 use Rattle.wasm_ast.specs.declared.val_types.ValType.{ValType}
 use Rattle.wasm_ast.specs.declared.val_types.ValType.TheVariants.{I32}
 use Rattle.wasm_ast.specs.declared.trees.Instr.TheOpen.{Instr-F}
@@ -11,19 +10,18 @@ use Rattle.wasm_ast.specs.Trees.{Layer}
 use Rattle.wasm_ast.specs.declared.modules.Module.{Module}
 use Rattle.wasm_ast.specs.declared.memory_types.MemoryType.{MemoryType}
 use Rattle.wasm_ast.specs.declared.global_vars.GlobalVar.{GlobalVar}
-use Rattle.wasm_ast.specs.Spaces.{global_types, memory_of, most_pages}
-use Rattle.wasm_ast.specs.Operators.{load_of, store_of, OperatorType}
-use Rattle.wasm_ast.specs.Bytes.{stored, in_pages, grown}
+use Rattle.wasm_ast.specs.Spaces.{global_types, memory_of, greatest_pages, page_limit}
+use Rattle.wasm_ast.specs.Operators.{Access, load_of, store_of, OperatorType}
+use Rattle.wasm_ast.specs.Bytes.{in_pages}
+use Rattle.wasm_ast.specs.Memory.{memory_load, memory_store, memory_grow, memory_copy, memory_fill}
 use Rattle.wasm_ast.specs.Typing.{Context, Plain}
-use Rattle.wasm_semantics.specs.declared.traps.Trap.TheVariants as trap
 use Rattle.wasm_semantics.specs.Operators.{operator_of, type_of_operator, compute, Computed, Number, Fails, Missing, read_as}
-use Rattle.wasm_semantics.specs.Data.{Data, Effect, Moves, Traps, Wrong, with_top, split, moves, computed, chosen, set_memory, load_at, store_at, grow_by, effect_of}
+use Rattle.wasm_semantics.specs.Data.{Data, Effect, Moves, Traps, Wrong, with_top, split, moves, computed, chosen, fetched, written, sized, effect_of}
 use Rattle.wasm_semantics.specs.OfModule.{Fits, Holds, IsMemory}
 use Rattle.wasm_semantics.proofs.Values.{holds_get, holds_set}
-use Rattle.wasm_semantics.proofs.Combinators.{top_rule, some_rule, if_rule, split_rule, at_most, at_least}
+use Rattle.wasm_semantics.proofs.Combinators.{top_rule, some_rule, if_rule, split_rule}
 use Rattle.wasm_semantics.proofs.Numbers.{NumFine, compute_fine, operator_typed}
-use Rattle.wasm_ast.proofs.Lengths.{length_stored}
-use Rattle.wasm_semantics.proofs.Memories.{read_fits}
+use Rattle.wasm_semantics.proofs.Memories.{AsLong, Grew, read_fits, store_as_long, copy_as_long, fill_as_long, grow_grew}
 
 pub record IsData (c : Context) (ts : List ValType) (d : Data) : Type 0 where
   pub memory : IsMemory (memory_of c.program) d.memory
@@ -146,36 +144,55 @@ num_fine c labels pages d after n x =
     (λ args rest ha hr. computed_fine c x.before below o.leaves d x.here rest hr (compute op args) (compute_fine op args ha))))
 
 -- memory
-memory_kept : (o : Option MemoryType) (t : MemoryType) (a b : List ℕ) → o ≡ Some t → length b ≡ length a → IsMemory o a → IsMemory o b
+memory_kept : (o : Option MemoryType) (t : MemoryType) (a b : List ℕ) → o ≡ Some t → AsLong a b → IsMemory o a → IsMemory o b
 memory_kept None t a b e l h = cc
 memory_kept (Some k) t a b e l h = (h.0, l ∙ h.1, h.2, h.3)
+
+fetched_fine : (c : Context) (ts us : List ValType) (d : Data) → IsData c ts d → (a : Access) (o : Option ℕ) (below : List ℕ) → Holds us below → Fine c (a.val_type ∷ us) (fetched d a o below)
+fetched_fine c ts us d x a None below h = tt
+fetched_fine c ts us d x a (Some n) below h = puts c ts (a.val_type ∷ us) d x (read_as a n ∷ below) (read_fits a n, h)
+
+written_fine : (c : Context) (ts us : List ValType) (t : MemoryType) (d : Data) → IsData c ts d → memory_of c.program ≡ Some t → (o : Option (List ℕ)) → IfSome o (AsLong d.memory) → (below : List ℕ) → Holds us below
+    → Fine c us (written d o below)
+written_fine c ts us t d x e None l below h = tt
+written_fine c ts us t d x e (Some memory) l below h = record { memory = memory_kept (memory_of c.program) t d.memory memory e l x.memory; globals = x.globals; locals = x.locals; values = h }
 
 load_fine : (c : Context) (labels : List (List ValType)) (pages : ℕ) (d : Data) (after : List ValType) (op align offset : ℕ) (x : At c labels d (Instr-F.Load op align offset) after)
     → Fine c after (effect_of c.program pages (Instr-F.Load op align offset) d)
 load_fine c labels pages d after op align offset x =
     let k = x.plain.0 in
     let below = x.plain.4.0 in
-    some_rule (Fine c after) Wrong (load_of op) k (λ k. with_top Wrong d.values (λ a vs. load_at d k (a + offset) vs)) x.plain.1
-    (top_rule (Fine c after) Wrong I32 below d.values (λ a vs. load_at d k (a + offset) vs) (subst (λ ts. Holds ts d.values) x.plain.4.1 x.here.values)
-    (λ a vs fa hv. if_rule (Fine c after) (nat_lt (length d.memory) (a + offset + k.width)) (Traps trap.Memory) (moves d (read_as k d.memory (a + offset) ∷ vs)) (λ e. tt)
-    (λ e. puts c x.before after d x.here (read_as k d.memory (a + offset) ∷ vs)
-    (subst (λ ts. Holds ts (read_as k d.memory (a + offset) ∷ vs)) (sym x.plain.4.2) (read_fits k d.memory (a + offset), hv)))))
+    some_rule (Fine c after) Wrong (load_of op) k (λ k. with_top Wrong d.values (λ a vs. fetched d k (memory_load d.memory (a + offset) k.width) vs)) x.plain.1
+    (top_rule (Fine c after) Wrong I32 below d.values (λ a vs. fetched d k (memory_load d.memory (a + offset) k.width) vs) (subst (λ ts. Holds ts d.values) x.plain.4.1 x.here.values)
+    (λ a vs fa hv. subst (λ ts. Fine c ts (fetched d k (memory_load d.memory (a + offset) k.width) vs)) (sym x.plain.4.2)
+    (fetched_fine c x.before below d x.here k (memory_load d.memory (a + offset) k.width) vs hv)))
 
 store_fine : (c : Context) (labels : List (List ValType)) (pages : ℕ) (d : Data) (after : List ValType) (op align offset : ℕ) (x : At c labels d (Instr-F.Store op align offset) after)
     → Fine c after (effect_of c.program pages (Instr-F.Store op align offset) d)
 store_fine c labels pages d after op align offset x =
     let k = x.plain.0 in
-    some_rule (Fine c after) Wrong (store_of op) k (λ k. with_top Wrong d.values (λ v vs. with_top Wrong vs (λ a ws. store_at d k (a + offset) v ws))) x.plain.1
-    (top_rule (Fine c after) Wrong k.val_type (I32 ∷ after) d.values (λ v vs. with_top Wrong vs (λ a ws. store_at d k (a + offset) v ws)) (subst (λ ts. Holds ts d.values) x.plain.4 x.here.values)
-    (λ v vs fv hv. top_rule (Fine c after) Wrong I32 after vs (λ a ws. store_at d k (a + offset) v ws) hv
-    (λ a ws fa ha. if_rule (Fine c after) (nat_lt (length d.memory) (a + offset + k.width)) (Traps trap.Memory) (set_memory d (stored d.memory (a + offset) k.width v) ws) (λ e. tt)
-    (λ e. record {
-      memory = memory_kept (memory_of c.program) x.plain.3.0 d.memory (stored d.memory (a + offset) k.width v) x.plain.3.1
-          (length_stored d.memory (a + offset) k.width v (at_least (length d.memory) (a + offset + k.width) e)) x.here.memory;
-      globals = x.here.globals;
-      locals = x.here.locals;
-      values = ha;
-    }))))
+    let go = λ (k : Access) (v a : ℕ) (ws : List ℕ). written d (memory_store d.memory (a + offset) k.width v) ws in
+    some_rule (Fine c after) Wrong (store_of op) k (λ k. with_top Wrong d.values (λ v vs. with_top Wrong vs (go k v))) x.plain.1
+    (top_rule (Fine c after) Wrong k.val_type (I32 ∷ after) d.values (λ v vs. with_top Wrong vs (go k v)) (subst (λ ts. Holds ts d.values) x.plain.4 x.here.values)
+    (λ v vs fv hv. top_rule (Fine c after) Wrong I32 after vs (go k v) hv
+    (λ a ws fa ha.
+    written_fine c x.before after x.plain.3.0 d x.here x.plain.3.1 (memory_store d.memory (a + offset) k.width v) (store_as_long d.memory (a + offset) k.width v) ws ha)))
+
+copy_fine : (c : Context) (labels : List (List ValType)) (pages : ℕ) (d : Data) (after : List ValType) (x : At c labels d Instr-F.MemoryCopy after) → Fine c after (effect_of c.program pages Instr-F.MemoryCopy d)
+copy_fine c labels pages d after x =
+    let go = λ (n from to : ℕ) (xs : List ℕ). written d (memory_copy d.memory to from n) xs in
+    top_rule (Fine c after) Wrong I32 (I32 ∷ (I32 ∷ after)) d.values (λ n vs. with_top Wrong vs (λ from ws. with_top Wrong ws (go n from))) (subst (λ ts. Holds ts d.values) x.plain.2 x.here.values)
+    (λ n vs fn hv. top_rule (Fine c after) Wrong I32 (I32 ∷ after) vs (λ from ws. with_top Wrong ws (go n from)) hv
+    (λ from ws ff hw. top_rule (Fine c after) Wrong I32 after ws (go n from) hw
+    (λ to xs ft hx. written_fine c x.before after x.plain.0 d x.here x.plain.1 (memory_copy d.memory to from n) (copy_as_long d.memory to from n) xs hx)))
+
+fill_fine : (c : Context) (labels : List (List ValType)) (pages : ℕ) (d : Data) (after : List ValType) (x : At c labels d Instr-F.MemoryFill after) → Fine c after (effect_of c.program pages Instr-F.MemoryFill d)
+fill_fine c labels pages d after x =
+    let go = λ (n v at : ℕ) (xs : List ℕ). written d (memory_fill d.memory at v n) xs in
+    top_rule (Fine c after) Wrong I32 (I32 ∷ (I32 ∷ after)) d.values (λ n vs. with_top Wrong vs (λ v ws. with_top Wrong ws (go n v))) (subst (λ ts. Holds ts d.values) x.plain.2 x.here.values)
+    (λ n vs fn hv. top_rule (Fine c after) Wrong I32 (I32 ∷ after) vs (λ v ws. with_top Wrong ws (go n v)) hv
+    (λ v ws fv hw. top_rule (Fine c after) Wrong I32 after ws (go n v) hw
+    (λ at xs fa hx. written_fine c x.before after x.plain.0 d x.here x.plain.1 (memory_fill d.memory at v n) (fill_as_long d.memory at v n) xs hx)))
 
 size_fits : (t : MemoryType) (bytes : List ℕ) → IsMemory (Some t) bytes → Fits I32 (in_pages bytes)
 size_fits t bytes h =
@@ -188,27 +205,32 @@ size_fine c labels pages d after x =
     puts c x.before after d x.here (in_pages d.memory ∷ d.values)
     (subst (λ ts. Holds ts (in_pages d.memory ∷ d.values)) (sym x.plain.2) (size_fits x.plain.0 d.memory (subst (λ o. IsMemory o d.memory) x.plain.1 x.here.memory), x.here.values))
 
-grown_fits : (t : MemoryType) (bytes : List ℕ) (v pages : ℕ) → IsMemory (Some t) bytes → v + in_pages bytes ≤ min pages (most_pages t) → IsMemory (Some t) (grown bytes v)
-grown_fits t bytes v pages h e =
+grown_is : (o : Option MemoryType) (t : MemoryType) (pages n : ℕ) (old new : List ℕ) → o ≡ Some t → IsMemory o old → Grew (min pages (greatest_pages o)) old n new → IsMemory o new
+grown_is None t pages n old new e h g = cc
+grown_is (Some k) t pages n old new e h g =
     let long = h.1 in
     let least = h.2 in
-    (h.0 + v, omega (arith, length-append bytes (replicate (v * 65536) 0), length-replicate {A = ℕ} (v * 65536) 0), omega arith, omega arith)
+    let longer = g.length in
+    let most = g.within in
+    (h.0 + n, omega arith, omega arith, omega arith)
+
+sized_fine : (c : Context) (ts us : List ValType) (t : MemoryType) (pages n : ℕ) (d : Data) → IsData c ts d → memory_of c.program ≡ Some t → (o : Option (List ℕ))
+    → IfSome o (Grew (min pages (page_limit c.program)) d.memory n) → (below : List ℕ) → Holds us below → Fine c (I32 ∷ us) (sized d o below)
+sized_fine c ts us t pages n d x e None g below h = puts c ts (I32 ∷ us) d x (4294967295 ∷ below) (lit< tt, h)
+sized_fine c ts us t pages n d x e (Some memory) g below h = record {
+  memory = grown_is (memory_of c.program) t pages n d.memory memory e x.memory g;
+  globals = x.globals;
+  locals = x.locals;
+  values = (size_fits t d.memory (subst (λ o. IsMemory o d.memory) e x.memory), h);
+}
 
 grow_fine : (c : Context) (labels : List (List ValType)) (pages : ℕ) (d : Data) (after : List ValType) (x : At c labels d Instr-F.MemoryGrow after) → Fine c after (effect_of c.program pages Instr-F.MemoryGrow d)
 grow_fine c labels pages d after x =
-    let t = x.plain.0 in
     let below = x.plain.2.0 in
-    let old : IsMemory (Some t) d.memory = subst (λ o. IsMemory o d.memory) x.plain.1 x.here.memory in
-    some_rule (Fine c after) Wrong (memory_of c.program) t (λ t. with_top Wrong d.values (λ v vs. grow_by pages t d v vs)) x.plain.1
-    (top_rule (Fine c after) Wrong I32 below d.values (λ v vs. grow_by pages t d v vs) (subst (λ ts. Holds ts d.values) x.plain.2.1 x.here.values)
-    (λ v vs fv hv. if_rule (Fine c after) (nat_le (v + in_pages d.memory) (min pages (most_pages t))) (set_memory d (grown d.memory v) (in_pages d.memory ∷ vs)) (moves d (4294967295 ∷ vs))
-    (λ e. record {
-      memory = subst (λ o. IsMemory o (grown d.memory v)) (sym x.plain.1) (grown_fits t d.memory v pages old (at_most (v + in_pages d.memory) (min pages (most_pages t)) e));
-      globals = x.here.globals;
-      locals = x.here.locals;
-      values = subst (λ ts. Holds ts (in_pages d.memory ∷ vs)) (sym x.plain.2.2) (size_fits t d.memory old, hv);
-    })
-    (λ e. puts c x.before after d x.here (4294967295 ∷ vs) (subst (λ ts. Holds ts (4294967295 ∷ vs)) (sym x.plain.2.2) (lit< tt, hv)))))
+    let go = λ (v : ℕ) (vs : List ℕ). sized d (memory_grow (min pages (page_limit c.program)) d.memory v) vs in
+    top_rule (Fine c after) Wrong I32 below d.values go (subst (λ ts. Holds ts d.values) x.plain.2.1 x.here.values)
+    (λ v vs fv hv. subst (λ ts. Fine c ts (go v vs)) (sym x.plain.2.2)
+    (sized_fine c x.before below x.plain.0 pages v d x.here x.plain.1 (memory_grow (min pages (page_limit c.program)) d.memory v) (grow_grew (min pages (page_limit c.program)) d.memory v) vs hv))
 
 abbrev pub IsOnData : Layer → Type 0
 IsOnData Instr-F.Unreachable = ⊥
@@ -236,6 +258,8 @@ data_fine c labels pages d after (Instr-F.Load op a n) x h = load_fine c labels 
 data_fine c labels pages d after (Instr-F.Store op a n) x h = store_fine c labels pages d after op a n x
 data_fine c labels pages d after Instr-F.MemorySize x h = size_fine c labels pages d after x
 data_fine c labels pages d after Instr-F.MemoryGrow x h = grow_fine c labels pages d after x
+data_fine c labels pages d after Instr-F.MemoryCopy x h = copy_fine c labels pages d after x
+data_fine c labels pages d after Instr-F.MemoryFill x h = fill_fine c labels pages d after x
 data_fine c labels pages d after (Instr-F.I32Const n) x h = const_fine c labels pages d after n x
 data_fine c labels pages d after (Instr-F.I64Const n) x h = const64_fine c labels pages d after n x
 data_fine c labels pages d after (Instr-F.Num n) x h = num_fine c labels pages d after n x

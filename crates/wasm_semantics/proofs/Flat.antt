@@ -1,17 +1,16 @@
 -- An instruction that moves data moves the same data where more operands lie below.
 use Rattle.std.proofs.Common.{◌≡◌, ◌≢◌, ◌≤◌, ◌+◌, ℕ, Bool, true, false, List, [], ◌∷◌, ◌++◌, length, take, drop, min, refl, ap, ◌∙◌, arith, length-append}
-use Rattle.std.specs.Prelude.{Option, Some, None, slice_get, nat_lt, nat_le, if◌then◌else◌}
+use Rattle.std.specs.Prelude.{Option, Some, None, slice_get, nat_lt, if◌then◌else◌}
 use Rattle.std.proofs.lemmas.List.{take-append-le, drop-append-le}
 use Rattle.std.proofs.lemmas.Bool.Decides.{nat_tests}
 use Rattle.wasm_ast.specs.declared.trees.Instr.TheOpen.{Instr-F}
 use Rattle.wasm_ast.specs.declared.modules.Module.{Module}
 use Rattle.wasm_ast.specs.Trees.{Layer}
-use Rattle.wasm_ast.specs.Spaces.{memory_of, most_pages}
+use Rattle.wasm_ast.specs.Spaces.{page_limit}
 use Rattle.wasm_ast.specs.Operators.{Access, load_of, store_of}
-use Rattle.wasm_ast.specs.Bytes.{stored, in_pages, grown}
-use Rattle.wasm_semantics.specs.declared.traps.Trap.TheVariants as trap
-use Rattle.wasm_semantics.specs.Operators.{operator_of, type_of_operator, compute, Computed, Number, Fails, Missing, read_as}
-use Rattle.wasm_semantics.specs.Data.{Data, Effect, Traps, Wrong, with_top, with_some, split, moves, computed, chosen, set_local, set_global, set_memory, load_at, store_at, grow_by, effect_of}
+use Rattle.wasm_ast.specs.Memory.{memory_load, memory_store, memory_grow, memory_copy, memory_fill}
+use Rattle.wasm_semantics.specs.Operators.{operator_of, type_of_operator, compute, Computed, Number, Fails, Missing}
+use Rattle.wasm_semantics.specs.Data.{Data, Effect, Wrong, with_top, with_some, split, moves, computed, chosen, set_local, set_global, fetched, written, sized, effect_of}
 use Rattle.wasm_semantics.specs.Laws.{deeper, lifted}
 
 top_flat : (w values : List ℕ) (go go' : ℕ → List ℕ → Effect) → with_top Wrong values go ≢ Wrong → ((v : ℕ) (vs : List ℕ) → go v vs ≢ Wrong → go' v (vs ++ w) ≡ lifted w (go v vs))
@@ -23,10 +22,6 @@ some_flat : {A : Type 0} (w : List ℕ) (o : Option A) (go go' : A → Effect) �
     → with_some Wrong o go' ≡ lifted w (with_some Wrong o go)
 some_flat w None go go' h k = refl
 some_flat w (Some v) go go' h k = k v h
-
-if_flat : (w : List ℕ) (b : Bool) (x y x' y' : Effect) → (if b then x else y) ≢ Wrong → (x ≢ Wrong → x' ≡ lifted w x) → (y ≢ Wrong → y' ≡ lifted w y) → (if b then x' else y') ≡ lifted w (if b then x else y)
-if_flat w true x y x' y' h p q = p h
-if_flat w false x y x' y' h p q = q h
 
 long_enough : (n k : ℕ) → nat_lt n k ≡ false → k ≤ n
 long_enough n k h = grind (arith, nat_tests)
@@ -52,6 +47,26 @@ computed_flat d w b (Number n) = refl
 computed_flat d w b (Fails t) = refl
 computed_flat d w b Missing = refl
 
+fetched_flat : (d : Data) (w b : List ℕ) (a : Access) (o : Option ℕ) → fetched (deeper d w) a o (b ++ w) ≡ lifted w (fetched d a o b)
+fetched_flat d w b a None = refl
+fetched_flat d w b a (Some n) = refl
+
+written_flat : (d : Data) (w b : List ℕ) (o : Option (List ℕ)) → written (deeper d w) o (b ++ w) ≡ lifted w (written d o b)
+written_flat d w b None = refl
+written_flat d w b (Some memory) = refl
+
+sized_flat : (d : Data) (w b : List ℕ) (o : Option (List ℕ)) → sized (deeper d w) o (b ++ w) ≡ lifted w (sized d o b)
+sized_flat d w b None = refl
+sized_flat d w b (Some memory) = refl
+
+three_flat : (w values : List ℕ) (go go' : ℕ → ℕ → ℕ → List ℕ → Effect) → with_top Wrong values (λ x xs. with_top Wrong xs (λ y ys. with_top Wrong ys (go x y))) ≢ Wrong
+    → ((x y z : ℕ) (zs : List ℕ) → go' x y z (zs ++ w) ≡ lifted w (go x y z zs))
+    → with_top Wrong (values ++ w) (λ x xs. with_top Wrong xs (λ y ys. with_top Wrong ys (go' x y))) ≡ lifted w (with_top Wrong values (λ x xs. with_top Wrong xs (λ y ys. with_top Wrong ys (go x y))))
+three_flat w values go go' h k =
+    top_flat w values (λ x xs. with_top Wrong xs (λ y ys. with_top Wrong ys (go x y))) (λ x xs. with_top Wrong xs (λ y ys. with_top Wrong ys (go' x y))) h
+    (λ x xs i. top_flat w xs (λ y ys. with_top Wrong ys (go x y)) (λ y ys. with_top Wrong ys (go' x y)) i
+    (λ y ys j. top_flat w ys (go x y) (go' x y) j (λ z zs l. k x y z zs)))
+
 pub effect_flat : (m : Module) (pages : ℕ) (y : Layer) (d : Data) (w : List ℕ) → effect_of m pages y d ≢ Wrong → effect_of m pages y (deeper d w) ≡ lifted w (effect_of m pages y d)
 effect_flat m pages Instr-F.Nop d w h = refl
 effect_flat m pages Instr-F.Drop d w h = top_flat w d.values (λ v vs. moves d vs) (λ v vs. moves (deeper d w) vs) h (λ v vs k. refl)
@@ -72,23 +87,24 @@ effect_flat m pages (Instr-F.GlobalSet x) d w h =
     some_flat w (slice_get d.globals x) (λ old. with_top Wrong d.values (λ v vs. set_global d x v vs)) (λ old. with_top Wrong (d.values ++ w) (λ v vs. set_global (deeper d w) x v vs)) h
     (λ old k. top_flat w d.values (λ v vs. set_global d x v vs) (λ v vs. set_global (deeper d w) x v vs) k (λ v vs l. refl))
 effect_flat m pages (Instr-F.Load op align offset) d w h =
-    some_flat w (load_of op) (λ k. with_top Wrong d.values (λ a vs. load_at d k (a + offset) vs)) (λ k. with_top Wrong (d.values ++ w) (λ a vs. load_at (deeper d w) k (a + offset) vs)) h
-    (λ k l. top_flat w d.values (λ a vs. load_at d k (a + offset) vs) (λ a vs. load_at (deeper d w) k (a + offset) vs) l
-    (λ a vs n. if_flat w (nat_lt (length d.memory) (a + offset + k.width)) (Traps trap.Memory) (moves d (read_as k d.memory (a + offset) ∷ vs))
-    (Traps trap.Memory) (moves (deeper d w) (read_as k d.memory (a + offset) ∷ (vs ++ w))) n (λ q. refl) (λ q. refl)))
+    let go = λ (e : Data) (k : Access) (a : ℕ) (vs : List ℕ). fetched e k (memory_load d.memory (a + offset) k.width) vs in
+    some_flat w (load_of op) (λ k. with_top Wrong d.values (go d k)) (λ k. with_top Wrong (d.values ++ w) (go (deeper d w) k)) h
+    (λ k l. top_flat w d.values (go d k) (go (deeper d w) k) l (λ a vs n. fetched_flat d w vs k (memory_load d.memory (a + offset) k.width)))
 effect_flat m pages (Instr-F.Store op align offset) d w h =
-    let go = λ (e : Data) (k : Access) (v : ℕ) (vs : List ℕ). with_top Wrong vs (λ a ws. store_at e k (a + offset) v ws) in
-    some_flat w (store_of op) (λ k. with_top Wrong d.values (go d k)) (λ k. with_top Wrong (d.values ++ w) (go (deeper d w) k)) h
-    (λ k l. top_flat w d.values (go d k) (go (deeper d w) k) l
-    (λ v vs n. top_flat w vs (λ a ws. store_at d k (a + offset) v ws) (λ a ws. store_at (deeper d w) k (a + offset) v ws) n
-    (λ a ws q. if_flat w (nat_lt (length d.memory) (a + offset + k.width)) (Traps trap.Memory) (set_memory d (stored d.memory (a + offset) k.width v) ws)
-    (Traps trap.Memory) (set_memory (deeper d w) (stored d.memory (a + offset) k.width v) (ws ++ w)) q (λ r. refl) (λ r. refl))))
+    let go = λ (e : Data) (k : Access) (v a : ℕ) (ws : List ℕ). written e (memory_store d.memory (a + offset) k.width v) ws in
+    some_flat w (store_of op) (λ k. with_top Wrong d.values (λ v vs. with_top Wrong vs (go d k v))) (λ k. with_top Wrong (d.values ++ w) (λ v vs. with_top Wrong vs (go (deeper d w) k v))) h
+    (λ k l. top_flat w d.values (λ v vs. with_top Wrong vs (go d k v)) (λ v vs. with_top Wrong vs (go (deeper d w) k v)) l
+    (λ v vs n. top_flat w vs (go d k v) (go (deeper d w) k v) n (λ a ws q. written_flat d w ws (memory_store d.memory (a + offset) k.width v))))
 effect_flat m pages Instr-F.MemorySize d w h = refl
 effect_flat m pages Instr-F.MemoryGrow d w h =
-    some_flat w (memory_of m) (λ t. with_top Wrong d.values (λ v vs. grow_by pages t d v vs)) (λ t. with_top Wrong (d.values ++ w) (λ v vs. grow_by pages t (deeper d w) v vs)) h
-    (λ t k. top_flat w d.values (λ v vs. grow_by pages t d v vs) (λ v vs. grow_by pages t (deeper d w) v vs) k
-    (λ v vs l. if_flat w (nat_le (v + in_pages d.memory) (min pages (most_pages t))) (set_memory d (grown d.memory v) (in_pages d.memory ∷ vs)) (moves d (4294967295 ∷ vs))
-    (set_memory (deeper d w) (grown d.memory v) (in_pages d.memory ∷ (vs ++ w))) (moves (deeper d w) (4294967295 ∷ (vs ++ w))) l (λ q. refl) (λ q. refl)))
+    let go = λ (e : Data) (v : ℕ) (vs : List ℕ). sized e (memory_grow (min pages (page_limit m)) d.memory v) vs in
+    top_flat w d.values (go d) (go (deeper d w)) h (λ v vs l. sized_flat d w vs (memory_grow (min pages (page_limit m)) d.memory v))
+effect_flat m pages Instr-F.MemoryCopy d w h =
+    let go = λ (e : Data) (n from to : ℕ) (xs : List ℕ). written e (memory_copy d.memory to from n) xs in
+    three_flat w d.values (go d) (go (deeper d w)) h (λ n from to xs. written_flat d w xs (memory_copy d.memory to from n))
+effect_flat m pages Instr-F.MemoryFill d w h =
+    let go = λ (e : Data) (n v at : ℕ) (xs : List ℕ). written e (memory_fill d.memory at v n) xs in
+    three_flat w d.values (go d) (go (deeper d w)) h (λ n v at xs. written_flat d w xs (memory_fill d.memory at v n))
 effect_flat m pages (Instr-F.I32Const n) d w h = refl
 effect_flat m pages (Instr-F.I64Const n) d w h = refl
 effect_flat m pages (Instr-F.Num op) d w h =

@@ -16,6 +16,13 @@ pub mod Spin
 pub mod Cases
 pub mod Keeps
 pub mod Pages
-pub mod Outcomes
 pub mod Flat
 pub mod Memory
+pub mod Operands
+pub mod Counts
+pub mod Waits
+pub mod Shifts
+pub mod Limits
+pub mod Fill
+pub mod ControlCases
+pub mod MemoryCases

@@ -4,7 +4,7 @@ use Rattle.std.specs.Prelude.{Option, Some, None}
 use Rattle.wasm_ast.specs.declared.memory_types.MemoryType.{MemoryType}
 use Rattle.wasm_ast.specs.declared.modules.Module.{Module}
 use Rattle.wasm_ast.specs.Spaces.{memory_of}
-use Rattle.wasm_ast.specs.Hosts.{HostCall}
+use Rattle.wasm_ast.specs.declared.hosts.HostName.{HostName}
 use Rattle.wasm_semantics.specs.Threads.{Thread}
 use Rattle.wasm_semantics.specs.Units.{with_memory}
 use Rattle.wasm_semantics.specs.OfModule.{IsMemory, IsOf, IsWaiting}
@@ -20,5 +20,5 @@ same_length (Some t) a b e h = (h.0, e ∙ h.1, h.2, h.3)
 pub another_is_of : (m : Module) (t : Thread) (memory : List ℕ) → IsOf m t → IsMemory (memory_of m) memory → IsOf m (with_memory t memory)
 another_is_of m t memory h fits = record { store = record { memory = fits; globals = h.store.globals; length = h.store.length; table = h.store.table }; running = h.running }
 
-pub another_waits : (m : Module) (c : HostCall) (t : Thread) (memory : List ℕ) → IsWaiting m c t → IsWaiting m c (with_memory t memory)
+pub another_waits : (m : Module) (c : HostName) (t : Thread) (memory : List ℕ) → IsWaiting m c t → IsWaiting m c (with_memory t memory)
 another_waits m c t memory h = h

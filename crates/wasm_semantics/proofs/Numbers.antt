@@ -8,10 +8,12 @@ use Rattle.wasm_ast.specs.declared.val_types.ValType.TheVariants.{I32, I64, F32,
 use Rattle.wasm_num.specs.declared.operators.ConvertOp.{ConvertOp}
 use Rattle.wasm_num.specs.declared.operators.ConvertOp.TheVariants as convert
 use Rattle.wasm_num.specs.declared.operators.NumTrap.{NumTrap}
-use Rattle.wasm_num.specs.Num.{num_unary, num_binary, num_compare, num_convert}
+use Rattle.wasm_num.specs.Num.{signed, num_unary, num_binary, num_compare, num_convert}
 use Rattle.wasm_ast.specs.Operators.{bits, between, OperatorType, operator_type, compare_type, unary_type, binary_type, convert_type}
-use Rattle.wasm_num.proofs.Bounds.{unary_below, binary_below, convert_below}
-use Rattle.wasm_semantics.specs.Operators.{Operator, Test, Compare, Unary, Binary, Convert, operator_of, type_of_operator, compares, unaries, binaries, extensions, Computed, Number, Fails, Missing, truth, of_result, with_one, with_two, compute}
+use Rattle.wasm_num.proofs.Bounds.{wrap_below, unary_below, binary_below, convert_below}
+use Rattle.wasm_semantics.specs.declared.operators.Operator.{Operator}
+use Rattle.wasm_semantics.specs.declared.operators.Operator.TheVariants.{Test, Compare, Unary, Binary, Convert, Extend}
+use Rattle.wasm_semantics.specs.Operators.{extended_from, operator_of, type_of_operator, compares, unaries, binaries, extensions, low_bits, Computed, Number, Fails, Missing, truth, of_result, with_one, with_two, compute}
 use Rattle.wasm_semantics.specs.OfModule.{Fits, Holds}
 
 pub fits_wrapped : (t : ValType) (n : ℕ) → Fits t (n % 2 ^ bits t)
@@ -59,6 +61,7 @@ compute_fine (Compare t op) args h = two_fine t I32 args (λ a b. Number (truth 
 compute_fine (Unary t op) args h = one_fine t t args (λ a. Number (num_unary op (bits t) a)) h (λ a fa. unary_below op (bits t) a fa)
 compute_fine (Binary t op) args h = two_fine t t args (λ a b. of_result (num_binary op (bits t) a b)) h (λ a b fa fb. result_fine t (num_binary op (bits t) a b) (binary_below op (bits t) a b (some_bits t) fa fb))
 compute_fine (Convert op) args h = convert_fine op args h
+compute_fine (Extend t n) args h = one_fine t t args (λ a. Number (extended_from n (bits t) a)) h (λ a fa. wrap_below (bits t) (signed n (a % 2 ^ n)))
 
 -- the operator of an opcode that has a type has that type
 abbrev Agree : Option OperatorType → Option Operator → Type 0
@@ -96,6 +99,9 @@ extended_by k h o e =
     let f = found extensions k h in
     (Convert f.0, ap (option_map Convert) f.1, extension_type f.0 k f.1 ∙ (let same : convert_type I32 I64 ≡ o = cc in same))
 
+kept_bits : (t : ValType) (k : ℕ) → k < 3 → Agree (Some (unary_type t)) (option_map (Extend t) (slice_get low_bits k))
+kept_bits t k h = listed low_bits (Extend t) (unary_type t) k (λ n. refl) h
+
 pub operator_typed : (n : ℕ) → Agree (operator_type n) (operator_of n)
 unfolding operator_type operator_of
 operator_typed n =
@@ -109,4 +115,6 @@ operator_typed n =
     (if_both (between 124 138 n) _ _ _ _ (λ e. listed binaries (Binary I64) (binary_type I64) (n - 124) (λ a. refl) (in_range 124 138 n e))
     (if_both (nat_eq n 167) _ _ _ _ (λ e. alone (Convert convert.Wrap))
     (if_both (between 172 173 n) _ _ _ _ (λ e. extended_by (n - 172) (in_range 172 173 n e))
-    (λ o e. cc))))))))))
+    (if_both (between 192 193 n) _ _ _ _ (λ e. kept_bits I32 (n - 192) (let few = in_range 192 193 n e in omega arith))
+    (if_both (between 194 196 n) _ _ _ _ (λ e. kept_bits I64 (n - 194) (in_range 194 196 n e))
+    (λ o e. cc))))))))))))

@@ -8,29 +8,30 @@ use Rattle.wasm_ast.specs.declared.trees.Instr.TheVariants as V
 use Rattle.wasm_ast.specs.Trees.{layer_loop, layer_br}
 use Rattle.wasm_ast.specs.Spaces.{own, type_of}
 use Rattle.wasm_ast.specs.Typing.{IsTyped, Types, Context, context_of, empty, loops}
-use Rattle.wasm_ast.specs.Floats.{has_float_code}
+use Rattle.wasm_ast.specs.Floats.{is_float_instr}
 use Rattle.wasm_ast.proofs.Floats.{is_float_layer, is_float_by_layer}
 use Rattle.wasm_ast.specs.Validity.{early_fault, handle_of, IsBodyTyped, Valid}
 use Rattle.wasm_ast.specs.Spaces.{Function}
 use Rattle.wasm_semantics.specs.Threads.{Thread, Goes}
 use Rattle.wasm_semantics.specs.Units.{unit, units, units_from}
 use Rattle.wasm_semantics.specs.Begin.{begin}
-use Rattle.wasm_semantics.specs.Examples.{spin, spin_code, spin_store, spin_inside, sequence, level, frame, lone}
-use Rattle.wasm_semantics.proofs.Steps.{taken, one_more, plainly, followed}
-use Rattle.wasm_semantics.proofs.Echo.{one_body, no_head}
+use Rattle.wasm_semantics.specs.Examples.{spin_store, spin_inside, level, frame, lone}
+use Rattle.wasm_ast.specs.TestModules.{spin, spin_code, sequence}
+use Rattle.wasm_ast.proofs.Derivations.{plainly, followed}
+use Rattle.wasm_semantics.proofs.Steps.{taken, one_more}
 
 abbrev turn : Instr
 turn = V.Loop None (sequence (V.Br 0 ∷ []))
 
-branch_no_float : has_float_code (V.Br 0 ∷ []) ≡ false
-branch_no_float = no_head (V.Br 0) [] (is_float_by_layer (V.Br 0) ∙ ap is_float_layer (layer_br 0)) refl
+branch_no_float : is_float_instr (V.Br 0) ≡ false
+branch_no_float = is_float_by_layer (V.Br 0) ∙ ap is_float_layer (layer_br 0)
 
-spin_no_float : has_float_code spin_code ≡ false
-spin_no_float = no_head turn [] (is_float_by_layer turn ∙ (ap is_float_layer (layer_loop None (sequence (V.Br 0 ∷ []))) ∙ branch_no_float)) refl
+spin_no_float : is_float_instr turn ≡ false
+spin_no_float = is_float_by_layer turn ∙ (ap is_float_layer (layer_loop None (sequence (V.Br 0 ∷ []))) ∙ rw (branch_no_float) refl)
 
 spin_early : early_fault spin ≡ None
 unfolding early_fault handle_of type_of
-spin_early = one_body spin_code spin_no_float
+spin_early = rw (spin_no_float) refl
 
 abbrev spinning : Function
 spinning = record { signature = record { params = []; results = [] }; declared = []; code = spin_code }

@@ -10,7 +10,8 @@ use Rattle.wasm_ast.specs.declared.elements.Element.{Element}
 use Rattle.wasm_ast.specs.declared.modules.Module.{Module}
 use Rattle.wasm_ast.specs.Spaces.{type_of, imported_type, function_count, table_size}
 use Rattle.wasm_ast.specs.Bytes.{placed}
-use Rattle.wasm_ast.specs.Hosts.{HostCall, host_named, agrees}
+use Rattle.wasm_ast.specs.declared.hosts.HostName.{HostName}
+use Rattle.wasm_ast.specs.Hosts.{host_named, agrees}
 use Rattle.wasm_ast.specs.Structure.{constant, constant_value, is_constant_of, is_element}
 use Rattle.wasm_ast.specs.Validity.{Valid}
 use Rattle.wasm_semantics.specs.Begin.{set_entries, with_elements, first_table}
@@ -22,7 +23,7 @@ abbrev pub IsKnown : Module → ℕ → Type 0
 IsKnown m x = (ft : FuncType) × (type_of m x ≡ Some ft)
 
 -- each index below the count of functions is known
-named_type : (o : Option HostCall) (t : Option FuncType) → IsTrue (agrees o t) → (ft : FuncType) × (t ≡ Some ft)
+named_type : (o : Option HostName) (t : Option FuncType) → IsTrue (agrees o t) → (ft : FuncType) × (t ≡ Some ft)
 named_type None t h = cc
 named_type (Some call) None h = cc
 named_type (Some call) (Some ft) h = (ft, refl)

@@ -9,21 +9,21 @@ use Rattle.wasm_ast.specs.declared.modules.Module.{Module}
 use Rattle.wasm_ast.specs.Typing.{context_of, Step, Types}
 use Rattle.wasm_ast.specs.Validity.{Valid}
 use Rattle.wasm_semantics.specs.declared.traps.Trap.TheVariants as trap
-use Rattle.wasm_semantics.specs.Data.{Effect, Moves, Traps, Wrong, effect_of}
+use Rattle.wasm_semantics.specs.Data.{Effect, Moves, Traps, Wrong, with_some, effect_of}
 use Rattle.wasm_semantics.specs.Threads.{Store, Level, Frame, Thread, Outcome, Goes, Calls, Done, Trapped, Stuck, too_much}
-use Rattle.wasm_semantics.specs.Control.{Spot}
-use Rattle.wasm_semantics.specs.Units.{data_of, applied, act, unit_front, unit_in, unit_at, limited, unit, Course, after_unit, units_from, units}
+use Rattle.wasm_semantics.specs.Control.{Spot, spot_in, first_spot, spot_with}
+use Rattle.wasm_semantics.specs.Units.{data_of, applied, act, unit_front, unit_at, limited, unit, Course, after_unit, units_from, units}
 use Rattle.wasm_semantics.specs.OfModule.{Holds, IsStore, Shape, labels_of, Levels, Running, IsOf, Sound}
 use Rattle.wasm_ast.proofs.Typings.{IsPlain, plain_of, block_of, loop_of, if_of, at_end, uncons}
 use Rattle.wasm_semantics.proofs.Combinators.{if_rule}
-use Rattle.wasm_semantics.proofs.Frames.{Inside, Here, inside_of, goes_rule, leave_rule}
+use Rattle.wasm_semantics.proofs.Frames.{Inside, Here, HasLocals, Stood, inside_of, goes_rule, leave_rule}
 use Rattle.wasm_semantics.proofs.Datas.{Fine, IsOnData, data_fine}
 use Rattle.wasm_semantics.proofs.Control.{Next, within, labels, Takes, block_sound, loop_sound, if_sound, br_sound, br_if_sound, br_table_sound, return_sound, call_sound, call_indirect_sound}
 
 applied_rule : {m : Module} {p : Spot} (x : Next m p) (e : Effect) → Fine (within x) x.after e → Sound m (applied p e)
 applied_rule {p = p} x (Moves d) h =
-    goes_rule x.here (record { memory = d.memory; globals = d.globals; table = p.store.table }) d.locals d.values p.rest x.after
-    (record { memory = h.memory; globals = h.globals; length = x.store.length; table = x.store.table }) h.locals h.values x.onward
+    goes_rule x.here (record { memory = d.memory; globals = d.globals; table = p.store.table }) d.locals d.values p.level.code x.after
+    (record { memory = h.memory; globals = h.globals; length = x.stood.store.length; table = x.stood.store.table }) h.locals h.values x.onward
 applied_rule x (Traps t) h = tt
 applied_rule x Wrong h = absurd h
 
@@ -34,41 +34,50 @@ data_sound : {m : Module} {p : Spot} (x : Next m p) (pages : ℕ) (y : Layer) �
 data_sound {m = m} {p = p} x pages y q h =
     applied_rule x (effect_of m pages y (data_of p))
     (data_fine (within x) (labels x) pages (data_of p) x.after y
-    (record { before = x.before; here = record { memory = x.store.memory; globals = x.store.globals; locals = x.here.inside.locals; values = x.values }; plain = q }) h)
+    (record { before = x.before; here = record { memory = x.stood.store.memory; globals = x.stood.store.globals; locals = x.stood.locals; values = x.values }; plain = q }) h)
 
-act_sound : {m : Module} {p : Spot} (pages : ℕ) (i : Instr) (y : Layer) (x : Next m p) → Valid m → layer i ≡ y → Step (within x) (labels x) i x.before x.after → Sound m (act m pages y p)
-act_sound pages i Instr-F.Unreachable x valid e d = tt
-act_sound pages i (Instr-F.Block bt body) x valid e d = let b = block_of (within x) (labels x) i x.before x.after bt body d e in block_sound x pages bt body b.0 b.1
-act_sound pages i (Instr-F.Loop bt body) x valid e d = let b = loop_of (within x) (labels x) i x.before x.after bt body d e in loop_sound x pages bt body b.0 b.1
-act_sound pages i (Instr-F.If bt first second) x valid e d =
-    let b = if_of (within x) (labels x) i x.before x.after bt first second d e in if_sound x pages bt first second b.2.0 b.0 b.1 b.2.1 b.2.2
-act_sound pages i (Instr-F.Br n) x valid e d = br_sound x pages n (plain_at x i (Instr-F.Br n) e d tt)
-act_sound pages i (Instr-F.BrIf n) x valid e d = br_if_sound x pages n (plain_at x i (Instr-F.BrIf n) e d tt)
-act_sound pages i (Instr-F.BrTable is n) x valid e d = br_table_sound x pages is n (plain_at x i (Instr-F.BrTable is n) e d tt)
-act_sound pages i Instr-F.Return x valid e d = return_sound x pages (plain_at x i Instr-F.Return e d tt)
-act_sound pages i (Instr-F.Call n) x valid e d = call_sound x pages n valid (plain_at x i (Instr-F.Call n) e d tt)
-act_sound pages i (Instr-F.CallIndirect n) x valid e d = call_indirect_sound x pages n valid (plain_at x i (Instr-F.CallIndirect n) e d tt)
-act_sound pages i y x valid e d = data_sound x pages y (plain_at x i y e d tt) tt
+act_sound : {m : Module} {p : Spot} (pages : ℕ) (i : Instr) (y : Layer) (x : Next m p) → Valid m → layer i ≡ y → Step (within x) (labels x) i x.before x.after
+    → Types (within x) (labels x) (i ∷ p.level.code) x.before x.here.shape.leaves → Sound m (act m pages i y p)
+act_sound pages i Instr-F.Unreachable x valid e d w = tt
+act_sound pages i (Instr-F.Block bt body) x valid e d w = let b = block_of (within x) (labels x) i x.before x.after bt body d e in block_sound x pages i bt body b.0 b.1
+act_sound pages i (Instr-F.Loop bt body) x valid e d w = let b = loop_of (within x) (labels x) i x.before x.after bt body d e in loop_sound x pages i bt body w b.0 b.1
+act_sound pages i (Instr-F.If bt first second) x valid e d w =
+    let b = if_of (within x) (labels x) i x.before x.after bt first second d e in if_sound x pages i bt first second b.2.0 b.0 b.1 b.2.1 b.2.2
+act_sound pages i (Instr-F.Br n) x valid e d w = br_sound x pages i n (plain_at x i (Instr-F.Br n) e d tt)
+act_sound pages i (Instr-F.BrIf n) x valid e d w = br_if_sound x pages i n (plain_at x i (Instr-F.BrIf n) e d tt)
+act_sound pages i (Instr-F.BrTable is n) x valid e d w = br_table_sound x pages i is n (plain_at x i (Instr-F.BrTable is n) e d tt)
+act_sound pages i Instr-F.Return x valid e d w = return_sound x pages i (plain_at x i Instr-F.Return e d tt)
+act_sound pages i (Instr-F.Call n) x valid e d w = call_sound x pages i n valid (plain_at x i (Instr-F.Call n) e d tt)
+act_sound pages i (Instr-F.CallIndirect n) x valid e d w = call_indirect_sound x pages i n valid (plain_at x i (Instr-F.CallIndirect n) e d tt)
+act_sound pages i y x valid e d w = data_sound x pages y (plain_at x i y e d tt) tt
 
-front_sound : {m : Module} {f : Frame} {fs : List Frame} {l : Level} {ls : List Level} (h : Here m f fs l ls) (pages : ℕ) (st : Store) (code : List Instr) (stands : List ValType) → Valid m → IsStore m st
-    → Holds stands l.values → Types (context_of m h.inside.function) (labels_of (h.shape ∷ h.others)) code stands h.shape.leaves → Sound m (unit_front m pages st f fs code l ls)
-front_sound {m = m} {l = l} {ls = ls} h pages st [] stands valid hs hv t =
-    leave_rule h.inside st l ls h.others h.shape.leaves hs h.levels
-    (subst (λ ts. Holds ts l.values) (at_end (context_of m h.inside.function) (labels_of (h.shape ∷ h.others)) stands h.shape.leaves t) hv)
-front_sound {m = m} {f = f} {fs = fs} {l = l} {ls = ls} h pages st (i ∷ rest) stands valid hs hv t =
+front_sound : {m : Module} {p : Spot} (h : Here m p.gives p.frames p.level p.levels) (pages : ℕ) (code : List Instr) (stands : List ValType) → Valid m → Stood p h.inside
+    → Holds stands p.level.values → Types (context_of m h.inside.function) (labels_of (h.shape ∷ h.others)) code stands h.shape.leaves → Sound m (unit_front m pages code p)
+front_sound {m = m} {p = p} h pages [] stands valid g hv t =
+    leave_rule p h.inside p.levels h.others h.shape.leaves g h.levels
+    (subst (λ ts. Holds ts p.level.values) (at_end (context_of m h.inside.function) (labels_of (h.shape ∷ h.others)) stands h.shape.leaves t) hv)
+front_sound {m = m} {p = p} h pages (i ∷ rest) stands valid g hv t =
     let u = uncons (context_of m h.inside.function) (labels_of (h.shape ∷ h.others)) (i ∷ rest) i rest stands h.shape.leaves t refl in
-    act_sound {p = record { store = st; frame = f; frames = fs; level = l; levels = ls; rest = rest; again = i ∷ rest }} pages i (layer i)
-    (record { here = h; store = hs; before = stands; after = u.0; values = hv; whole = t; onward = u.2 }) valid refl u.1
+    act_sound {p = spot_with p p.level.values rest} pages i (layer i)
+    (record {
+      here = record { inside = h.inside; shape = h.shape; others = h.others; target = h.target; levels = h.levels };
+      stood = record { store = g.store; locals = g.locals };
+      before = stands;
+      after = u.0;
+      values = hv;
+      onward = u.2;
+    }) valid refl u.1 t
 
-inside_sound : {m : Module} {f : Frame} {fs : List Frame} (i : Inside m f fs) (pages : ℕ) (st : Store) (levels : List Level) (s : Shape) (ss : List Shape) → Valid m → IsStore m st
-    → Levels (context_of m i.function) levels (s ∷ ss) [] → Sound m (unit_in m pages st f fs levels)
-inside_sound i pages st [] s ss valid hs lv = absurd lv
-inside_sound i pages st (l ∷ ls) s ss valid hs lv =
-    front_sound (record { inside = i; shape = s; others = ss; target = lv.0.target; levels = lv.1 }) pages st l.code s.stands valid hs lv.0.values lv.0.code
+inside_sound : {m : Module} (f : Frame) {fs : List Frame} (i : Inside m f.gives fs) (pages : ℕ) (st : Store) (levels : List Level) (s : Shape) (ss : List Shape) → Valid m → IsStore m st → HasLocals i f.locals
+    → Levels (context_of m i.function) levels (s ∷ ss) [] → Sound m (with_some Stuck (spot_in st f fs levels) (unit_at m pages))
+inside_sound f i pages st [] s ss valid hs hl lv = absurd lv
+inside_sound f {fs = fs} i pages st (l ∷ ls) s ss valid hs hl lv =
+    front_sound {p = record { store = st; locals = f.locals; gives = f.gives; frames = fs; level = l; levels = ls }} (record { inside = i; shape = s; others = ss; target = lv.0.target; levels = lv.1 }) pages l.code
+    s.stands valid (record { store = hs; locals = hl }) lv.0.values lv.0.code
 
-frames_sound : (m : Module) (pages : ℕ) (st : Store) (frames : List Frame) → Valid m → IsStore m st → Running m frames [] → Sound m (unit_at m pages st frames)
+frames_sound : (m : Module) (pages : ℕ) (st : Store) (frames : List Frame) → Valid m → IsStore m st → Running m frames [] → Sound m (with_some Stuck (first_spot st frames) (unit_at m pages))
 frames_sound m pages st [] valid hs r = absurd r
-frames_sound m pages st (f ∷ fs) valid hs r = inside_sound (inside_of m f fs [] r.0 r.1) pages st f.levels r.0.first r.0.others valid hs r.0.levels
+frames_sound m pages st (f ∷ fs) valid hs r = inside_sound f (inside_of m f fs [] r.0 r.1) pages st f.levels r.0.first r.0.others valid hs r.0.locals r.0.levels
 
 limited_sound : (m : Module) (o : Outcome) → Sound m o → Sound m (limited o)
 limited_sound m (Goes t) h = if_rule (Sound m) (too_much t) (Trapped trap.Stack) (Goes t) (λ b. tt) (λ b. h)
@@ -79,7 +88,7 @@ limited_sound m Stuck h = h
 
 pub unit_sound : (m : Module) (pages : ℕ) (t : Thread) → Valid m → IsOf m t → Sound m (unit m pages t)
 unfolding unit
-unit_sound m pages t valid r = limited_sound m (unit_at m pages t.store t.frames) (frames_sound m pages t.store t.frames valid r.store r.running)
+unit_sound m pages t valid r = limited_sound m (with_some Stuck (first_spot t.store t.frames) (unit_at m pages)) (frames_sound m pages t.store t.frames valid r.store r.running)
 
 course_sound : (m : Module) (o : Outcome) (used : ℕ) (go : Thread → Course) → Sound m o → ((t : Thread) → IsOf m t → Sound m (go t).stop) → Sound m (after_unit o used go).stop
 course_sound m (Goes t) used go h k = k t h

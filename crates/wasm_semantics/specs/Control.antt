@@ -5,75 +5,107 @@ use Rattle.wasm_ast.specs.declared.func_types.FuncType.{FuncType}
 use Rattle.wasm_ast.specs.declared.imports.Import.{Import}
 use Rattle.wasm_ast.specs.declared.modules.Module.{Module}
 use Rattle.wasm_ast.specs.Spaces.{Function, own, type_of}
-use Rattle.wasm_ast.specs.Hosts.{HostCall, host_named, host_params, same_type}
+use Rattle.wasm_ast.specs.declared.hosts.HostName.{HostName}
+use Rattle.wasm_ast.specs.Hosts.{host_named, host_params, same_type}
 use Rattle.wasm_semantics.specs.declared.traps.Trap.TheVariants as trap
 use Rattle.wasm_semantics.specs.Data.{with_some, split}
 use Rattle.wasm_semantics.specs.Threads.{Store, Level, Frame, Thread, Outcome, Goes, Calls, Done, Trapped, Stuck}
 
--- where a thread stands before an instruction: its store, its running frame and level, those around them, the code behind the instruction, and that code with the instruction
+-- where a thread runs: its store, the locals of the frame that runs and how many values its return keeps, the frames below, its
+-- innermost level, and the levels around that
 pub record Spot : Type 0 where
   pub store : Store
-  pub frame : Frame
+  pub locals : List ℕ
+  pub gives : ℕ
   pub frames : List Frame
   pub level : Level
   pub levels : List Level
-  pub rest : List Instr
-  pub again : List Instr
+
+-- the thread that runs there
+abbrev pub thread_at : Spot → Thread
+thread_at p = record { store = p.store; frames = record { locals = p.locals; levels = p.level ∷ p.levels; gives = p.gives } ∷ p.frames }
+
+-- the innermost of these levels
+abbrev pub spot_in : Store → Frame → List Frame → List Level → Option Spot
+spot_in st f fs [] = None
+spot_in st f fs (l ∷ ls) = Some (record { store = st; locals = f.locals; gives = f.gives; frames = fs; level = l; levels = ls })
+
+-- the first of these frames
+abbrev pub first_spot : Store → List Frame → Option Spot
+first_spot st [] = None
+first_spot st (f ∷ fs) = spot_in st f fs f.levels
+
+-- where a thread runs, if it has a frame with a level
+abbrev pub spot_of : Thread → Option Spot
+spot_of t = first_spot t.store t.frames
+
+-- a level without operands
+abbrev pub empty_level : List Instr → ℕ → List Instr → Level
+empty_level code keeps target = record { values = []; code = code; keeps = keeps; target = target }
 
 -- the level with other values and other code
 abbrev pub level_with : Level → List ℕ → List Instr → Level
 level_with l values code = record { values = values; code = code; keeps = l.keeps; target = l.target }
 
--- the thread whose running level has these values and this code
-abbrev pub thread_at : Store → List ℕ → Frame → List Frame → Level → List Level → List ℕ → List Instr → Thread
-thread_at st locals f fs l ls values code = record { store = st; frames = record { locals = locals; levels = level_with l values code ∷ ls; gives = f.gives } ∷ fs }
+-- other levels in the frame that runs
+abbrev pub at_level : Spot → Level → List Level → Spot
+at_level p l ls = record { store = p.store; locals = p.locals; gives = p.gives; frames = p.frames; level = l; levels = ls }
 
--- it goes on as such a thread
-abbrev pub goes : Store → List ℕ → Frame → List Frame → Level → List Level → List ℕ → List Instr → Outcome
-goes st locals f fs l ls values code = Goes (thread_at st locals f fs l ls values code)
+-- other values and other code in the innermost level
+abbrev pub spot_with : Spot → List ℕ → List Instr → Spot
+spot_with p values code = at_level p (level_with p.level values code) p.levels
 
--- on behind the instruction, with these values
+-- the thread that runs there with other values
+abbrev pub behind : Spot → List ℕ → Thread
+behind p values = thread_at (spot_with p values p.level.code)
+
+-- it goes on with these values
 abbrev pub onto : Spot → List ℕ → Outcome
-onto p values = goes p.store p.frame.locals p.frame p.frames p.level p.levels values p.rest
+onto p values = Goes (behind p values)
 
--- results onto the operands of the frame below; done where there is none
-abbrev pub hand_level : Store → List ℕ → Frame → List Frame → List Level → Outcome
-hand_level st kept g gs [] = Stuck
-hand_level st kept g gs (l ∷ ls) = goes st g.locals g gs l ls (kept ++ l.values) l.code
+-- results onto the operands of the frame where a thread runs then
+abbrev pub handed : List ℕ → Option Spot → Outcome
+handed kept None = Stuck
+handed kept (Some p) = onto p (kept ++ p.level.values)
 
--- results to the frame below, if there is one
+-- results to the frame below; done where there is none
 abbrev pub hand : Store → List ℕ → List Frame → Outcome
 hand st kept [] = Done
-hand st kept (g ∷ gs) = hand_level st kept g gs g.levels
+hand st kept (g ∷ gs) = handed kept (first_spot st (g ∷ gs))
 
--- a frame is closed, and its results are the topmost of these values
-abbrev pub finish : Store → Frame → List Frame → List ℕ → Outcome
-finish st f fs values = split Stuck f.gives values (λ kept below. hand st kept fs)
+-- the frame is closed, and its results are the topmost of these values
+abbrev pub finish : Spot → List ℕ → Outcome
+finish p values = split Stuck p.gives values (λ kept below. hand p.store kept p.frames)
 
--- a branch to label n with the innermost block's values; one to the function's own level is a return
-abbrev pub branch : Store → Frame → List Frame → ℕ → List ℕ → List Level → Outcome
-branch st f fs n values [] = Stuck
-branch st f fs zero values (l ∷ []) = finish st f fs values
-branch st f fs zero values (l ∷ o ∷ os) = split Stuck l.keeps values (λ kept below. goes st f.locals f fs o os (kept ++ o.values) l.target)
-branch st f fs (suc n) values (l ∷ ls) = branch st f fs n values ls
+-- a branch from these levels to label n with these values of the innermost; one to the function's own level is a return
+abbrev pub branch : Spot → ℕ → List ℕ → List Level → Outcome
+branch p n values [] = Stuck
+branch p zero values (l ∷ []) = finish p values
+branch p zero values (l ∷ o ∷ os) =
+    split Stuck l.keeps values (λ kept below. Goes (thread_at (at_level p (level_with o (kept ++ o.values) l.target) os)))
+branch p (suc n) values (l ∷ ls) = branch p n values ls
 
--- a branch from where a thread stands
+-- a branch from where a thread runs
 abbrev pub branch_at : Spot → ℕ → List ℕ → Outcome
-branch_at p n values = branch p.store p.frame p.frames n values (p.level ∷ p.levels)
+branch_at p n values = branch p n values (p.level ∷ p.levels)
 
 -- a block is opened with this code; a branch to it keeps so many values and goes on at target
 abbrev pub enter : Spot → List ℕ → List Instr → ℕ → List Instr → Outcome
 enter p values code keeps target =
-    goes p.store p.frame.locals p.frame p.frames (record { values = []; code = []; keeps = keeps; target = target }) (level_with p.level values p.rest ∷ p.levels) [] code
+    Goes (thread_at (at_level p (empty_level code keeps target) (level_with p.level values p.level.code ∷ p.levels)))
 
--- the end of a block hands its values to the one around it; the end of a function's own level is a return
-abbrev pub leave : Store → Frame → List Frame → Level → List Level → Outcome
-leave st f fs l [] = finish st f fs l.values
-leave st f fs l (o ∷ os) = goes st f.locals f fs o os (l.values ++ o.values) o.code
+-- the values of a block that ends go to the level around it; a function's own level returns
+abbrev pub leave_to : Spot → List Level → Outcome
+leave_to p [] = finish p p.level.values
+leave_to p (o ∷ os) = onto (at_level p o os) (p.level.values ++ o.values)
+
+-- the end of the innermost level
+abbrev pub leave : Spot → Outcome
+leave p = leave_to p p.levels
 
 -- a frame that begins
 abbrev pub first_frame : Function → List ℕ → Frame
-first_frame fn locals = record { locals = locals; levels = record { values = []; code = fn.code; keeps = 0; target = [] } ∷ []; gives = length fn.signature.results }
+first_frame fn locals = record { locals = locals; levels = empty_level fn.code 0 [] ∷ []; gives = length fn.signature.results }
 
 -- one zero for each
 abbrev pub zeros : {A : Type 0} → List A → List ℕ
@@ -82,14 +114,11 @@ zeros xs = map (λ x. 0) xs
 -- a frame of fn, with these arguments, the last on top, and the declared locals at zero, over the frame that runs
 abbrev pub opened : Function → Spot → List ℕ → List ℕ → Outcome
 opened fn p args below =
-    Goes (record {
-      store = p.store;
-      frames = first_frame fn (reverse args ++ zeros fn.declared) ∷ (record { locals = p.frame.locals; levels = level_with p.level below p.rest ∷ p.levels; gives = p.frame.gives } ∷ p.frames);
-    })
+    Goes (record { store = p.store; frames = first_frame fn (reverse args ++ zeros fn.declared) ∷ (behind p below).frames })
 
 -- the host is asked, and the thread waits behind the call
-abbrev pub asked : HostCall → Spot → List ℕ → List ℕ → Outcome
-asked h p args below = Calls h (reverse args) (thread_at p.store p.frame.locals p.frame p.frames p.level p.levels below p.rest)
+abbrev pub asked : HostName → Spot → List ℕ → List ℕ → Outcome
+asked h p args below = Calls h (reverse args) (behind p below)
 
 -- an import is a host call, any other a function of the module
 abbrev pub call_of : Module → ℕ → Spot → List ℕ → Option Import → Outcome
@@ -104,4 +133,5 @@ call m x p values = call_of m x p values (slice_get m.imports x)
 abbrev pub indirect : Module → FuncType → Spot → List ℕ → Option (Option ℕ) → Outcome
 indirect m ft p values None = Trapped trap.Table
 indirect m ft p values (Some None) = Trapped trap.Empty
-indirect m ft p values (Some (Some x)) = with_some Stuck (type_of m x) (λ found. if same_type found ft then call m x p values else Trapped trap.TypeDiffers)
+indirect m ft p values (Some (Some x)) =
+    with_some Stuck (type_of m x) (λ found. if same_type found ft then call m x p values else Trapped trap.TypeDiffers)

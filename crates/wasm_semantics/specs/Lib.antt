@@ -5,6 +5,6 @@ pub mod Control
 pub mod Units
 pub mod Begin
 pub mod OfModule
-pub mod Taken
+pub mod Operands
 pub mod Laws
 pub mod Examples

@@ -8,7 +8,8 @@ use Rattle.wasm_ast.specs.declared.modules.Module.{Module}
 use Rattle.wasm_ast.specs.Spaces.{Function, global_types, most_pages, type_of, own, table_size, memory_of}
 use Rattle.wasm_ast.specs.Operators.{bits}
 use Rattle.wasm_ast.specs.Typing.{Context, context_of, Types}
-use Rattle.wasm_ast.specs.Hosts.{HostCall, host_params, host_results}
+use Rattle.wasm_ast.specs.declared.hosts.HostName.{HostName}
+use Rattle.wasm_ast.specs.Hosts.{host_params, host_results}
 use Rattle.wasm_semantics.specs.Threads.{Store, Level, Frame, Thread, Outcome, Goes, Calls, Done, Trapped, Stuck}
 use Rattle.wasm_semantics.specs.Units.{unit, with_memory, answered}
 use Rattle.wasm_semantics.specs.Begin.{begin}
@@ -96,15 +97,17 @@ pub record IsOf (m : Module) (t : Thread) : Type 0 where
   pub running : Running m t.frames []
 
 -- an answer of a host call, a number of its type where it has one
-abbrev pub IsAnswer : HostCall → Option ℕ → Type 0
+abbrev pub IsAnswer : HostName → Option ℕ → Type 0
 IsAnswer h answer = Holds (host_results h) (option_to_list answer)
 
 -- the thread waits for an answer of this call: with each one, and any memory that the module may have, it is of the module
-abbrev pub IsWaiting : Module → HostCall → Thread → Type 0
-IsWaiting m h t = (memory : List ℕ) (answer : Option ℕ) → IsMemory (memory_of m) memory → IsAnswer h answer → IsOf m (answered (with_memory t memory) answer)
+abbrev pub IsWaiting : Module → HostName → Thread → Type 0
+IsWaiting m h t =
+    (memory : List ℕ) (answer : Option ℕ) → IsMemory (memory_of m) memory → IsAnswer h answer
+    → IsOf m (answered (with_memory t memory) answer)
 
 -- a host call with arguments of its types, from a thread whose memory the module may have
-pub record IsCall (m : Module) (h : HostCall) (args : List ℕ) (t : Thread) : Type 0 where
+pub record IsCall (m : Module) (h : HostName) (args : List ℕ) (t : Thread) : Type 0 where
   pub arguments : Holds (host_params h) args
   pub memory : IsMemory (memory_of m) t.store.memory
   pub waits : IsWaiting m h t
@@ -121,5 +124,6 @@ Sound m Stuck = ⊥
 pub data Reached : Module → Outcome → Type 0 where
   start : (m : Module) → Reached m (Goes (begin m))
   step : (m : Module) (pages : ℕ) (t : Thread) → Reached m (Goes t) → Reached m (unit m pages t)
-  reply : (m : Module) (h : HostCall) (args : List ℕ) (t : Thread) (memory : List ℕ) (answer : Option ℕ) → Reached m (Calls h args t) → IsMemory (memory_of m) memory → IsAnswer h answer
+  reply : (m : Module) (h : HostName) (args : List ℕ) (t : Thread) (memory : List ℕ) (answer : Option ℕ) → Reached m (Calls h args t)
+      → IsMemory (memory_of m) memory → IsAnswer h answer
       → Reached m (Goes (answered (with_memory t memory) answer))

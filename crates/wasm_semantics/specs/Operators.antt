@@ -1,6 +1,6 @@
 -- What the operators on integers compute, by opcode (4.3.2, 4.4.1, 5.4.5).
-use Rattle.std.specs.Prelude.{ℕ, ◌+◌, ◌-◌, ◌*◌, ◌%◌, ◌^◌, Bool, true, false, ◌&&◌, nat_eq, nat_le, if◌then◌else◌, List, [], ◌∷◌, Option, Some, None, option_map, slice_get, Result, Ok, Err}
-use Rattle.wasm_ast.specs.declared.val_types.ValType.{ValType}
+use Rattle.std.specs.Prelude.{ℕ, ◌-◌, ◌*◌, ◌%◌, ◌^◌, Bool, true, false, nat_eq, if◌then◌else◌, List, [], ◌∷◌}
+use Rattle.std.specs.Prelude.{Option, Some, None, option_map, slice_get, Result, Ok, Err}
 use Rattle.wasm_ast.specs.declared.val_types.ValType.TheVariants.{I32, I64}
 use Rattle.wasm_num.specs.declared.operators.UnaryOp.{UnaryOp}
 use Rattle.wasm_num.specs.declared.operators.UnaryOp.TheVariants as unary
@@ -11,21 +11,16 @@ use Rattle.wasm_num.specs.declared.operators.CompareOp.TheVariants as compare
 use Rattle.wasm_num.specs.declared.operators.ConvertOp.{ConvertOp}
 use Rattle.wasm_num.specs.declared.operators.ConvertOp.TheVariants as convert
 use Rattle.wasm_num.specs.declared.operators.NumTrap.{NumTrap}
-use Rattle.wasm_num.specs.Num.{num_unary, num_binary, num_compare, num_convert}
+use Rattle.wasm_num.specs.Num.{signed, wrap, num_unary, num_binary, num_compare, num_convert}
+use Rattle.wasm_semantics.specs.declared.operators.Operator.{Operator}
+use Rattle.wasm_semantics.specs.declared.operators.Operator.TheVariants.{Test, Compare, Unary, Binary, Convert, Extend}
 use Rattle.wasm_ast.specs.Operators.{bits, between, OperatorType, test_type, compare_type, unary_type, binary_type, convert_type, Access}
-use Rattle.wasm_ast.specs.Bytes.{loaded}
-
--- an operator and its type
-pub data Operator : Type 0 where
-  Test : ValType → Operator
-  Compare : ValType → CompareOp → Operator
-  Unary : ValType → UnaryOp → Operator
-  Binary : ValType → BinaryOp → Operator
-  Convert : ConvertOp → Operator
 
 -- the comparisons in the order of their opcodes
 abbrev pub compares : List CompareOp
-compares = compare.Eq ∷ compare.Ne ∷ compare.LtS ∷ compare.LtU ∷ compare.GtS ∷ compare.GtU ∷ compare.LeS ∷ compare.LeU ∷ compare.GeS ∷ compare.GeU ∷ []
+compares =
+    compare.Eq ∷ compare.Ne ∷ compare.LtS ∷ compare.LtU ∷ compare.GtS ∷ compare.GtU
+    ∷ compare.LeS ∷ compare.LeU ∷ compare.GeS ∷ compare.GeU ∷ []
 
 -- those on one number
 abbrev pub unaries : List UnaryOp
@@ -41,6 +36,10 @@ binaries =
 abbrev pub extensions : List ConvertOp
 extensions = convert.ExtendS ∷ convert.ExtendU ∷ []
 
+-- how many low bits a sign extension keeps
+abbrev pub low_bits : List ℕ
+low_bits = 8 ∷ 16 ∷ 32 ∷ []
+
 -- the operator with this opcode
 unfoldable pub operator_of : ℕ → Option Operator
 operator_of n =
@@ -54,6 +53,8 @@ operator_of n =
     if between 124 138 n then option_map (Binary I64) (slice_get binaries (n - 124)) else
     if nat_eq n 167 then Some (Convert convert.Wrap) else
     if between 172 173 n then option_map Convert (slice_get extensions (n - 172)) else
+    if between 192 193 n then option_map (Extend I32) (slice_get low_bits (n - 192)) else
+    if between 194 196 n then option_map (Extend I64) (slice_get low_bits (n - 194)) else
     None
 
 -- what a conversion takes and leaves
@@ -69,6 +70,7 @@ type_of_operator (Compare t op) = compare_type t
 type_of_operator (Unary t op) = unary_type t
 type_of_operator (Binary t op) = binary_type t
 type_of_operator (Convert op) = converted_type op
+type_of_operator (Extend t n) = unary_type t
 
 -- a number, a trap, or operands that are missing
 pub data Computed : Type 0 where
@@ -97,6 +99,10 @@ with_two [] go = Missing
 with_two (b ∷ []) go = Missing
 with_two (b ∷ a ∷ others) go = go a b
 
+-- the number of w bits whose signed reading is that of the low n bits of a
+abbrev pub extended_from : ℕ → ℕ → ℕ → ℕ
+extended_from n w a = wrap w (signed n (a % 2 ^ n))
+
 -- what an operator makes of its operands, the topmost first
 abbrev pub compute : Operator → List ℕ → Computed
 compute (Test t) args = with_one args (λ a. Number (truth (nat_eq a 0)))
@@ -104,11 +110,8 @@ compute (Compare t op) args = with_two args (λ a b. Number (truth (num_compare 
 compute (Unary t op) args = with_one args (λ a. Number (num_unary op (bits t) a))
 compute (Binary t op) args = with_two args (λ a b. of_result (num_binary op (bits t) a b))
 compute (Convert op) args = with_one args (λ a. Number (num_convert op a))
+compute (Extend t n) args = with_one args (λ a. Number (extended_from n (bits t) a))
 
--- a number of width bytes; where the load extends the sign and the top bit is set, each bit above is set too (4.3.2)
-abbrev pub extended : Access → ℕ → ℕ
-extended a n = if a.signed && nat_le (2 ^ (8 * a.width - 1)) n then n + (2 ^ bits a.val_type - 2 ^ (8 * a.width)) else n
-
--- the value of its type that a load finds at this address
-abbrev pub read_as : Access → List ℕ → ℕ → ℕ
-read_as a bytes at = extended a (loaded bytes at a.width) % 2 ^ bits a.val_type
+-- the value of its type that a load makes of the number that its bytes are (4.4.4)
+abbrev pub read_as : Access → ℕ → ℕ
+read_as a n = if a.signed then extended_from (8 * a.width) (bits a.val_type) n else n % 2 ^ bits a.val_type

@@ -1,7 +1,7 @@
 -- Threads (4.2): a memory, globals, a table, and frames with blocks. Code that remains is a list of instructions.
 use Rattle.std.specs.Prelude.{ℕ, ◌+◌, ◌-◌, Bool, ◌||◌, nat_lt, List, [], ◌∷◌, length, Option}
 use Rattle.wasm_ast.specs.declared.trees.Instr.{Instr}
-use Rattle.wasm_ast.specs.Hosts.{HostCall}
+use Rattle.wasm_ast.specs.declared.hosts.HostName.{HostName}
 use Rattle.wasm_semantics.specs.declared.traps.Trap.{Trap}
 
 -- what all frames share (4.2.3); an entry of the table is a function's index, where it is set
@@ -10,14 +10,16 @@ pub record Store : Type 0 where
   pub globals : List ℕ
   pub table : List (Option ℕ)
 
--- an open block, or the function's own level (4.2.12): its operands, the topmost first, the instructions that remain, how many operands a branch to it keeps, and the instructions where such a branch goes on
+-- an open block, or the function's own level (4.2.12): its operands, the topmost first, the instructions that remain,
+-- how many operands a branch to it keeps, and the instructions where such a branch goes on
 pub record Level : Type 0 where
   pub values : List ℕ
   pub code : List Instr
   pub keeps : ℕ
   pub target : List Instr
 
--- a call that has not returned (4.2.12): its locals, its levels, innermost first and the function's own last, and how many values its return keeps
+-- a call that has not returned (4.2.12): its locals, its levels, innermost first and the function's own last, and how many
+-- values its return keeps
 pub record Frame : Type 0 where
   pub locals : List ℕ
   pub levels : List Level
@@ -31,7 +33,7 @@ pub record Thread : Type 0 where
 -- what a unit comes to: a thread, a host call with its arguments in order and the thread that waits, the end, a trap, or no rule
 pub data Outcome : Type 0 where
   Goes : Thread → Outcome
-  Calls : HostCall → List ℕ → Thread → Outcome
+  Calls : HostName → List ℕ → Thread → Outcome
   Done : Outcome
   Trapped : Trap → Outcome
   Stuck : Outcome

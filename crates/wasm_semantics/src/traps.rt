@@ -5,7 +5,7 @@
 pub enum Trap {
     /// The instruction `unreachable`.
     Unreachable,
-    /// A load or a store past the end of the memory.
+    /// A load, a store, a copy or a fill past the end of the memory.
     Memory,
     /// A division by 0.
     Divide,

@@ -1,4 +1,5 @@
-use Rattle.wasm_semantics.proofs.Echo.{echo_valid, echo_three, echo_four, echo_answered, fourth}
+use Rattle.wasm_ast.proofs.Worked.{echo_valid}
+use Rattle.wasm_semantics.proofs.Echo.{echo_three, echo_four, echo_answered, fourth}
 use Rattle.wasm_semantics.proofs.examples.echo_asks_in_four_units.Goals as goal
 
 pub returns-clause-valid : goal.returns-clause-valid

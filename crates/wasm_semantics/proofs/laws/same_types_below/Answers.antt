@@ -1,5 +1,0 @@
-use Rattle.wasm_ast.proofs.Deeper.{types_below}
-use Rattle.wasm_semantics.proofs.laws.same_types_below.Goals as goal
-
-pub returns : goal.returns
-returns c = types_below
