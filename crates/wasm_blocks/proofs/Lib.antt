@@ -1,0 +1,5 @@
+pub mod Cuts
+pub mod Levels
+pub mod Owns
+pub mod Rests
+pub mod Goings

@@ -1,0 +1,4 @@
+pub mod Callees
+pub mod Resting
+pub mod Standing
+pub mod Turns
