@@ -1,0 +1,5 @@
+pub mod Lines
+pub mod Texts
+pub mod Drafts
+pub mod Reading
+pub mod Answers
