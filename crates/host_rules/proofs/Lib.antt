@@ -1,0 +1,15 @@
+pub mod Lists
+pub mod Stores
+pub mod Changes
+pub mod Agrees
+pub mod Effects
+pub mod Calls
+pub mod Stints
+pub mod Turns
+pub mod Runs
+pub mod NoGates
+pub mod ByRuns
+pub mod Places
+pub mod Numbers
+pub mod Ordered
+pub mod Nodding
