@@ -1,7 +1,7 @@
 -- The answer of a reader is what the lines held say first.
 use Rattle.std.proofs.Common.{◌≡◌, ◌≢◌, ℕ, ◌<◌, Bool, true, false, cond, List, [], ◌∷◌, ◌++◌, length, Option, None, Some, Result, Ok, Err, ◌⊎◌, inl, inr, refl, sym, ap, ◌∙◌, arith}
 use Rattle.event_file.specs.Lines.{lines_of, is_too_long}
-use Rattle.event_file.specs.Reading.{Reading, said_by}
+use Rattle.event_file.specs.Reader.{Reader, said_by}
 use Rattle.event_file.specs.Calls.{SayNothing, Skips, Advances, IsDue, first_said, or_later}
 use Rattle.event_file.specs.declared.entry.Entry.{Entry}
 use Rattle.event_file.specs.declared.fault.LineFault.{LineFault}
@@ -13,7 +13,7 @@ use Rattle.event_file.proofs.Go.{is_end}
 use Rattle.event_file.proofs.Within.{long_line}
 
 -- a whole line that says nothing leaves the word to those below it
-past_line : (r : Reading) (line : List ℕ) (lines : List (List ℕ)) → 0 < length lines → said_by r line ≡ Ok None
+past_line : (r : Reader) (line : List ℕ) (lines : List (List ℕ)) → 0 < length lines → said_by r line ≡ Ok None
     → first_said r (line ∷ lines) ≡ first_said r lines
 past_line r line [] l h = absurd (omega arith)
 past_line r line (next ∷ lines) l h =
@@ -23,21 +23,21 @@ some_after : (skipped lines : List (List ℕ)) → 0 < length lines → 0 < leng
 some_after [] lines l = l
 some_after (line ∷ skipped) lines l = omega arith
 
-past_lines : (r : Reading) (skipped lines : List (List ℕ)) → 0 < length lines → SayNothing r skipped
+past_lines : (r : Reader) (skipped lines : List (List ℕ)) → 0 < length lines → SayNothing r skipped
     → first_said r (skipped ++ lines) ≡ first_said r lines
 past_lines r [] lines l h = refl
 past_lines r (line ∷ skipped) lines l h =
     past_line r line (skipped ++ lines) (some_after skipped lines l) h.0 ∙ past_lines r skipped lines l h.1
 
-past_skips : (old new : Reading) → Skips old new
+past_skips : (old new : Reader) → Skips old new
     → first_said old (lines_of old.kept) ≡ first_said new (lines_of new.kept)
 past_skips old new s =
     ap (λ (lines : List (List ℕ)). first_said old lines) s.whole
     ∙ (past_lines old s.skipped (lines_of new.kept) (some_part is_end new.kept) s.nothing
-    ∙ sym (ap (λ (r : Reading). first_said r (lines_of new.kept)) s.same))
+    ∙ sym (ap (λ (r : Reader). first_said r (lines_of new.kept)) s.same))
 
 -- a whole line that says something
-speaks : (r : Reading) (line : List ℕ) (lines : List (List ℕ)) (said : Result (Option Entry) LineFault) → 0 < length lines
+speaks : (r : Reader) (line : List ℕ) (lines : List (List ℕ)) (said : Result (Option Entry) LineFault) → 0 < length lines
     → said_by r line ≡ said → first_said r (line ∷ lines) ≡ or_later said (first_said r lines)
 speaks r line [] said l h = absurd (omega arith)
 speaks r line (next ∷ lines) said l h =
@@ -50,12 +50,12 @@ long_by : (b : Bool) (fault : LineFault) → b ≡ true → fault ≡ Word → c
 long_by true fault h e = ap (λ (f : LineFault). Some (Err f)) (sym e)
 long_by false fault h e = absurd (cc)
 
-stops_by : (r : Reading) (line : List ℕ) (below : List (List ℕ)) (fault : LineFault)
+stops_by : (r : Reader) (line : List ℕ) (below : List (List ℕ)) (fault : LineFault)
     → (below ≢ []) ⊎ (is_too_long line ≡ true) → said_by r line ≡ Err fault
     → first_said r (line ∷ below) ≡ Some (Err fault)
 stops_by r line [] fault (inl whole) h = absurd (whole refl)
 stops_by r line [] fault (inr long) h =
-    let now = long_line r.labels r.clients r.functions line long in
+    let now = long_line r.known line long in
     let e : fault ≡ Word = cc in
     long_by (is_too_long line) fault long e
 stops_by r line (next ∷ below) fault ready h = speaks r line (next ∷ below) (Err fault) (omega arith) h
@@ -70,12 +70,12 @@ said_something (Ok None) later h = λ e. h refl
 said_something (Ok (Some entry)) later h = λ e. absurd (cc)
 said_something (Err fault) later h = λ e. absurd (cc)
 
-waits_by : (r : Reading) (line : List ℕ) (below : List (List ℕ)) → below ≢ [] → said_by r line ≢ Ok None
+waits_by : (r : Reader) (line : List ℕ) (below : List (List ℕ)) → below ≢ [] → said_by r line ≢ Ok None
     → first_said r (line ∷ below) ≢ None
 waits_by r line [] whole h = absurd (whole refl)
 waits_by r line (next ∷ below) whole h = said_something (said_by r line) (first_said r (next ∷ below)) h
 
-pub is_due : (old new : Reading) (answer : Next) → Advances old new answer
+pub is_due : (old new : Reader) (answer : Next) → Advances old new answer
     → IsDue (first_said old (lines_of old.kept)) answer
 is_due old new (next.Entry entry) a =
     past_skips old a.between a.skips
@@ -88,7 +88,7 @@ is_due old new (next.Bad bad) a =
 is_due old new next.NoLine a =
     let e : a.between ≡ new = sym a.goes.0 in
     past_skips old a.between a.skips
-    ∙ (ap (λ (r : Reading). first_said r (lines_of r.kept)) e
+    ∙ (ap (λ (r : Reader). first_said r (lines_of r.kept)) e
     ∙ (ap (λ (lines : List (List ℕ)). first_said new lines) a.goes.1.part ∙ short_by (is_too_long new.kept) a.goes.1.short))
 is_due old new next.NoMemory a =
     λ none.
@@ -96,4 +96,4 @@ is_due old new next.NoMemory a =
     let w = a.goes.1 in
     waits_by new w.line w.below w.whole w.says
     (sym (ap (λ (lines : List (List ℕ)). first_said new lines) w.lines)
-    ∙ (sym (ap (λ (r : Reading). first_said r (lines_of r.kept)) e) ∙ (sym (past_skips old a.between a.skips) ∙ none)))
+    ∙ (sym (ap (λ (r : Reader). first_said r (lines_of r.kept)) e) ∙ (sym (past_skips old a.between a.skips) ∙ none)))

@@ -8,8 +8,11 @@ use Rattle.hex.specs.Hex.{decode_of}
 use Rattle.hex.specs.declared.error.FromHexError.{FromHexError}
 use Rattle.label_lattice.specs.Order.{place_of}
 use Rattle.label_lattice.specs.declared.label.Label.{Label}
+use Rattle.trapeze_io.specs.Answers.{◌>>=◌}
+use Rattle.trapeze_io.specs.Sizes.{longest_key, longest_value}
+use Rattle.event_file.specs.Known.{Known}
 use Rattle.event_file.specs.Lines.{words_of, is_too_long, is_remark}
-use Rattle.event_file.specs.Puts.{◌>>=◌, named, bounded, bytes_of, label_of, value_of, put_of, present, longest_key, longest_value}
+use Rattle.event_file.specs.Puts.{named, bounded, bytes_of, label_of, value_of, put_of, present}
 use Rattle.event_file.specs.Script.{entry_of, line_of, said, IsWithin}
 use Rattle.event_file.specs.declared.entry.Entry.{Entry}
 use Rattle.event_file.specs.declared.entry.Entry.TheVariants.{One}
@@ -19,7 +22,7 @@ use Rattle.event_file.specs.declared.fault.LineFault.{LineFault}
 use Rattle.event_file.specs.declared.fault.LineFault.TheVariants.{Word}
 use Rattle.event_file.proofs.Split as split
 
--- the first step of a reading that gave something gave something
+-- the first step of steps that gave something gave something
 bound_ok : {A B : Type 0} (r : Result A LineFault) (f : A → Result B LineFault) (y : B)
     → (r >>= f) ≡ Ok y → (x : A) × (r ≡ Ok x) × (f x ≡ Ok y)
 bound_ok (Ok x) f y h = (x, refl, h)
@@ -79,30 +82,30 @@ label_within labels word label h =
     let at = named_place (place_of word labels) label h in
     (split.found (pointwise nat_eq word) labels label.number at).0
 
-put_within : (labels : List (List ℕ)) (words : List (List ℕ)) (event : Event) → put_of labels words ≡ Ok event → IsWithin labels (One event)
+put_within : (known : Known) (words : List (List ℕ)) (event : Event) → put_of known words ≡ Ok event → IsWithin known (One event)
 unfolding put_of
-put_within labels [] event h = absurd (cc)
-put_within labels (a ∷ []) event h = absurd (cc)
-put_within labels (a ∷ b ∷ []) event h = absurd (cc)
-put_within labels (a ∷ b ∷ d ∷ e ∷ more) event h = absurd (cc)
-put_within labels (label ∷ key ∷ value ∷ []) event h =
-    let l = bound_ok (label_of labels label) _ event h in
+put_within known [] event h = absurd (cc)
+put_within known (a ∷ []) event h = absurd (cc)
+put_within known (a ∷ b ∷ []) event h = absurd (cc)
+put_within known (a ∷ b ∷ d ∷ e ∷ more) event h = absurd (cc)
+put_within known (label ∷ key ∷ value ∷ []) event h =
+    let l = bound_ok (label_of known.labels label) _ event h in
     let k = bound_ok (bytes_of longest_key key) _ event l.2 in
     let v = bound_ok (value_of value) _ event k.2 in
     let is : Put l.0 k.0 v.0 ≡ event = cc in
-    let P : Event → Type 0 = λ e. IsWithin labels (One e) in
-    subst P is (label_within labels label l.0 l.1, bytes_within longest_key key k.0 k.1, value_within value v.0 v.1)
+    let P : Event → Type 0 = λ e. IsWithin known (One e) in
+    subst P is (label_within known.labels label l.0 l.1, bytes_within longest_key key k.0 k.1, value_within value v.0 v.1)
 
-entry_within : (labels : List (List ℕ)) (clients functions words : List (List ℕ)) (entry : Entry)
-    → entry_of labels clients functions words ≡ Ok entry → IsWithin labels entry
+entry_within : (known : Known) (words : List (List ℕ)) (entry : Entry)
+    → entry_of known words ≡ Ok entry → IsWithin known entry
 unfolding entry_of
-entry_within labels clients functions [] entry h = absurd (cc)
-entry_within labels clients functions (first ∷ others) entry h =
+entry_within known [] entry h = absurd (cc)
+entry_within known (first ∷ others) entry h =
     let r = chosen (bytes_eq first (codes "put")) _ entry h in
-    let e = bound_ok (put_of labels others) (λ (event : Event). Ok (One event)) entry r in
+    let e = bound_ok (put_of known others) (λ (event : Event). Ok (One event)) entry r in
     let is : One e.0 ≡ entry = cc in
-    let P : Entry → Type 0 = λ entry. IsWithin labels entry in
-    subst P is (put_within labels others e.0 e.1)
+    let P : Entry → Type 0 = λ entry. IsWithin known entry in
+    subst P is (put_within known others e.0 e.1)
 
 said_entry : (r : Result Entry LineFault) (entry : Entry) → said r ≡ Ok (Some entry) → r ≡ Ok entry
 said_entry (Ok other) entry h = cc
@@ -115,25 +118,25 @@ line_by false true r entry h = absurd (cc)
 line_by false false r entry h = h
 
 -- the entry of a line keeps to the limits
-pub line_within : (labels : List (List ℕ)) (clients functions : List (List ℕ)) (line : List ℕ) (entry : Entry)
-    → line_of labels clients functions line ≡ Ok (Some entry) → IsWithin labels entry
+pub line_within : (known : Known) (line : List ℕ) (entry : Entry)
+    → line_of known line ≡ Ok (Some entry) → IsWithin known entry
 unfolding line_of
-line_within labels clients functions line entry h =
+line_within known line entry h =
     let r = line_by (is_too_long line) (is_remark line) _ entry h in
-    entry_within labels clients functions (words_of line) entry
-    (said_entry (entry_of labels clients functions (words_of line)) entry r)
+    entry_within known (words_of line) entry
+    (said_entry (entry_of known (words_of line)) entry r)
 
 -- an empty line says nothing
-pub empty_line : (labels : List (List ℕ)) (clients functions : List (List ℕ)) → line_of labels clients functions [] ≡ Ok None
+pub empty_line : (known : Known) → line_of known [] ≡ Ok None
 unfolding line_of
-empty_line labels clients functions = refl
+empty_line known = refl
 
 long_by : (b : Bool) (r : Result (Option Entry) LineFault) → b ≡ true → cond b (Err Word) r ≡ Err Word
 long_by true r h = refl
 long_by false r h = absurd (cc)
 
 -- a line that is too long is a fault
-pub long_line : (labels : List (List ℕ)) (clients functions : List (List ℕ)) (line : List ℕ) → is_too_long line ≡ true
-    → line_of labels clients functions line ≡ Err Word
+pub long_line : (known : Known) (line : List ℕ) → is_too_long line ≡ true
+    → line_of known line ≡ Err Word
 unfolding line_of
-long_line labels clients functions line h = long_by (is_too_long line) _ h
+long_line known line h = long_by (is_too_long line) _ h

@@ -1,11 +1,15 @@
 -- What a step of reading a line answers.
-use Rattle.std.specs.Prelude.{◌≡◌, ⊤, Result, Ok, Err}
+use Rattle.std.specs.Prelude.{Option, None, Some, Result}
+use Rattle.trapeze_io.specs.Answers.{Answers}
 use Rattle.event_file.specs.declared.fault.LineFault.{LineFault}
 use Rattle.event_file.specs.declared.line.Unread.{Unread}
 use Rattle.event_file.specs.declared.line.Unread.TheVariants.{Fault, NoMemory}
 
--- the answer is the one that the definition gives, or memory was wanting
-abbrev pub Agrees : {T : Type 0} → Result T LineFault → Result T Unread → Type 0
-Agrees expected (Ok value) = expected ≡ Ok value
-Agrees expected (Err (Fault fault)) = expected ≡ Err fault
-Agrees expected (Err NoMemory) = ⊤
+-- the fault for which a line could not be read, and none where it was out of memory
+abbrev pub fault_of : Unread → Option LineFault
+fault_of (Fault fault) = Some fault
+fault_of NoMemory = None
+
+-- the answer is the one that the definition gives, or out of memory
+abbrev pub Agrees : {A : Type 0} → Result A LineFault → Result A Unread → Type 0
+Agrees = Answers fault_of

@@ -1,14 +1,12 @@
 -- How a reader keeps what contracts see of it.
 use Rattle.std.specs.Prelude.{◌+◌, ◌-◌, ◌^◌, ◌<◌, ◌≤◌, ◌==◌, length, drop}
 use Rattle.std.specs.List.{position_or_len}
-use Rattle.event_file.specs.Reading.{Reading}
+use Rattle.event_file.specs.Reader.{Reader}
 use Rattle.event_file.specs.declared.reader.EventReader.TheInside.{Inside}
 
-abbrev pub reading_of : Inside → Reading
-reading_of reader = record {
-  labels = reader.known.lattice.now.names;
-  clients = reader.known.clients.now;
-  functions = reader.known.functions.now;
+abbrev pub reader_of : Inside → Reader
+reader_of reader = record {
+  known = reader.known;
   kept = drop reader.start reader.buffer.items;
   lines = reader.lines;
   fed = reader.fed;

@@ -1,7 +1,8 @@
+pub mod Known
 pub mod Lines
 pub mod Puts
 pub mod Script
-pub mod Reading
+pub mod Reader
 pub mod Calls
 pub mod Agrees
 pub mod Left

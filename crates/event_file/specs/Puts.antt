@@ -1,20 +1,17 @@
 -- What the words of a put say.
 use Rattle.std.specs.Prelude.{ℕ, List, [], ◌∷◌, length, ◌==◌, nat_le, if◌then◌else◌, codes, Option, None, Some, Result, Ok, Err}
 use Rattle.std.specs.Str.{bytes_eq}
+use Rattle.trapeze_io.specs.Answers.{◌>>=◌}
+use Rattle.trapeze_io.specs.Sizes.{longest_key, longest_value}
 use Rattle.label_lattice.specs.Order.{place_of}
 use Rattle.label_lattice.specs.declared.label.Label.{Label}
 use Rattle.hex.specs.Hex.{decode_of}
 use Rattle.hex.specs.declared.error.FromHexError.{FromHexError}
+use Rattle.event_file.specs.Known.{Known}
 use Rattle.event_file.specs.declared.entry.Event.{Event}
 use Rattle.event_file.specs.declared.entry.Event.TheVariants.{Put}
 use Rattle.event_file.specs.declared.fault.LineFault.{LineFault}
 use Rattle.event_file.specs.declared.fault.LineFault.TheVariants.{Word}
-
--- a reading goes on with what was read, or ends with the first fault
-infixl 10 ◌>>=◌
-abbrev pub ◌>>=◌ : {A B : Type 0} → Result A LineFault → (A → Result B LineFault) → Result B LineFault
-Ok x >>= f = f x
-Err fault >>= f = Err fault
 
 -- the label at the place that was found
 abbrev pub named : Option ℕ → Result Label LineFault
@@ -35,14 +32,6 @@ unfoldable pub bytes_of : ℕ → List ℕ → Result (List ℕ) LineFault
 bytes_of most [] = Err Word
 bytes_of most (mark ∷ digits) = if mark == 120 then bounded most (decode_of digits) else Err Word
 
--- the most bytes of a key
-abbrev pub longest_key : ℕ
-longest_key = 1024
-
--- the most bytes of a value
-abbrev pub longest_value : ℕ
-longest_value = 65536
-
 -- bytes that are there
 abbrev pub present : Result (List ℕ) LineFault → Result (Option (List ℕ)) LineFault
 present (Ok bytes) = Ok (Some bytes)
@@ -53,10 +42,10 @@ unfoldable pub value_of : List ℕ → Result (Option (List ℕ)) LineFault
 value_of word = if bytes_eq word (codes "-") then Ok None else present (bytes_of longest_value word)
 
 -- the put that the words after `put` say: a label, a key and a value
-unfoldable pub put_of : List (List ℕ) → List (List ℕ) → Result Event LineFault
-put_of labels (label ∷ key ∷ value ∷ []) = do
-  at ← label_of labels label
+unfoldable pub put_of : Known → List (List ℕ) → Result Event LineFault
+put_of known (label ∷ key ∷ value ∷ []) = do
+  at ← label_of known.labels label
   under ← bytes_of longest_key key
   put ← value_of value
   Ok (Put at under put)
-put_of labels words = Err Word
+put_of known words = Err Word

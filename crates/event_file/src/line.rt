@@ -12,14 +12,11 @@ use crate::words::Words;
 use hex::FromHexError;
 use label_lattice::{Label, Lattice};
 use std::alloc::Global;
-use trapeze_io::{Bytes, Name};
+use std::marker::Model;
+use trapeze_io::{Bytes, LONGEST_KEY, LONGEST_VALUE, Name};
 
 /// The most bytes that a line may have, its end not counted.
 pub(crate) const LONGEST_LINE: usize = 140_000;
-
-const LONGEST_KEY: usize = 1024;
-
-const LONGEST_VALUE: usize = 65_536;
 
 /// Why a line could not be read.
 #[derive(Clone, Copy, Drop)]
@@ -29,18 +26,26 @@ pub(crate) enum Unread {
 }
 
 /// The names that lines may use.
-#[derive(Clone, Copy, Drop)]
+#[derive(Drop)]
 pub(crate) struct Known<'a> {
     pub(crate) lattice: &'a Lattice,
     pub(crate) clients: &'a [Name],
     pub(crate) functions: &'a [Name],
 }
 
+impl<'a> Model for Known<'a> {
+    ghost use Rattle.event_file.specs.Known.{Known};
+
+    ghost Value = { Known };
+
+    ghost view = { λ known. record { labels = known.lattice.now.names; clients = known.clients.now; functions = known.functions.now } };
+}
+
 /// What the line says; `None` is nothing.
 #[tactic(auto, unfolding(crate::specs::Script::line_of))]
 pub(crate) fn read_line(alloc: Global, known: &Known, line: &[u8]) -> Result<Option<Entry>, Unread>
-    ensures said { Agrees (line_of known.now.lattice.now.names known.now.clients.now known.now.functions.now line.now) result }
-    ensures nothing { line_of known.now.lattice.now.names known.now.clients.now known.now.functions.now line.now ≡ Ok None → result ≡ Ok None }
+    ensures said { Agrees (line_of known.now line.now) result }
+    ensures nothing { line_of known.now line.now ≡ Ok None → result ≡ Ok None }
 {
     if line.len() > LONGEST_LINE {
         return Err(Unread::Fault(LineFault::Word));
@@ -63,11 +68,11 @@ fn is_remark(line: &[u8]) -> bool
 
 #[tactic(auto, unfolding(crate::specs::Script::entry_of))]
 fn read_entry(alloc: Global, known: &Known, mut words: Words) -> Result<Entry, Unread>
-    ensures { Agrees (entry_of known.now.lattice.now.names known.now.clients.now known.now.functions.now words.entry) result }
+    ensures { Agrees (entry_of known.now words.entry) result }
 {
     match words.next_word() {
         Some(first) if first == b"put".as_slice() => {
-            let event = read_put(alloc, known.lattice, words)?;
+            let event = read_put(alloc, known, words)?;
             Ok(Entry::One(event))
         }
         _ => Err(Unread::Fault(LineFault::Word)),
@@ -75,8 +80,8 @@ fn read_entry(alloc: Global, known: &Known, mut words: Words) -> Result<Entry, U
 }
 
 #[tactic(auto, unfolding(crate::specs::Puts::put_of))]
-fn read_put(alloc: Global, lattice: &Lattice, mut words: Words) -> Result<Event, Unread>
-    ensures { Agrees (put_of lattice.now.names words.entry) result }
+fn read_put(alloc: Global, known: &Known, mut words: Words) -> Result<Event, Unread>
+    ensures { Agrees (put_of known.now words.entry) result }
 {
     let (Some(label), Some(key), Some(value), None) = (
         words.next_word(),
@@ -86,7 +91,7 @@ fn read_put(alloc: Global, lattice: &Lattice, mut words: Words) -> Result<Event,
     ) else {
         return Err(Unread::Fault(LineFault::Word));
     };
-    let label = read_label(lattice, label)?;
+    let label = read_label(known.lattice, label)?;
     let key = read_bytes(alloc, LONGEST_KEY, key)?;
     let value = read_value(alloc, value)?;
     Ok(Event::Put { label, key, value })

@@ -3,7 +3,7 @@
 ghost use Rattle.std.specs.Prelude.{◌≡◌, ◌+◌, ◌<◌, ◌≤◌, ◌==◌, if◌then◌else◌, true, ◌^◌, ◌++◌, [], ◌∷◌, List, ℕ, length, take, drop, false, None, Some, Ok, IfSome, OnOk, OnErr, MatchOption};
 ghost use Rattle.event_file.specs.Agrees.{Agrees};
 ghost use Rattle.event_file.specs.Lines.{lines_of};
-ghost use Rattle.event_file.specs.Reading.{IsNumbered, IsOneLine, entries_with, said_by};
+ghost use Rattle.event_file.specs.Reader.{IsNumbered, IsOneLine, entries_with, said_by};
 
 use crate::entry::Entry;
 use crate::fault::{LineError, LineFault};
@@ -32,19 +32,19 @@ pub struct EventReader<'a> {
 }
 
 impl<'a> Model for EventReader<'a> {
-    ghost use Rattle.event_file.specs.Reading.{Reading};
+    ghost use Rattle.event_file.specs.Reader.{Reader};
 
-    ghost Value = { Reading };
+    ghost Value = { Reader };
 
-    ghost use Rattle.event_file.specs.Kept.{reading_of, IsSound};
+    ghost use Rattle.event_file.specs.Kept.{reader_of, IsSound};
 
-    ghost view = { reading_of };
+    ghost view = { reader_of };
 
     ghost invariant = { IsSound };
 }
 
 impl<'a> EventReader<'a> {
-    ghost use Rattle.event_file.specs.Calls.{Advances, Completes, Continues, Ends, GivesWithin, IsDue, Leaves, bad_after, first_said};
+    ghost use Rattle.event_file.specs.Calls.{Advances, Completes, Continues, Finishes, GivesWithin, IsDue, Leaves, bad_after, first_said};
 
     /// A reader of a file whose lines may use these names.
     pub fn new(
@@ -55,7 +55,7 @@ impl<'a> EventReader<'a> {
     ) -> EventReader<'a>
         requires clients { IsNumbered clients.now }
         requires functions { IsNumbered functions.now }
-        ensures { result ≡ record { labels = lattice.now.names; clients = clients.now; functions = functions.now; kept = []; lines = 0; fed = 0; finished = false; bad = None } }
+        ensures { result ≡ record { known = record { labels = lattice.now.names; clients = clients.now; functions = functions.now }; kept = []; lines = 0; fed = 0; finished = false; bad = None } }
     {
         EventReader {
             known: Known {
@@ -136,7 +136,7 @@ impl<'a> EventReader<'a> {
     pub fn finish(&mut self) -> Next
         requires { self.old.bad ≡ None → IsOneLine self.old.kept }
         ensures again { IfSome self.old.bad (λ bad. (result ≡ Next.Bad bad) × (self.new ≡ record self.old { finished = true })) }
-        ensures answer { self.old.bad ≡ None → Ends self.old self.new result }
+        ensures answer { self.old.bad ≡ None → Finishes self.old self.new result }
         ensures entries { self.old.bad ≡ None → Completes self.old self.new result }
         ensures within { GivesWithin self.new result }
     {

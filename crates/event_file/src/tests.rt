@@ -1,7 +1,7 @@
 //! Files of a few lines.
 
 ghost use Rattle.std.specs.Prelude.{◌≡◌, None, Ok, IfOk, MatchOption, false, ⊤};
-ghost use Rattle.event_file.specs.Reading.{IsOneLine};
+ghost use Rattle.event_file.specs.Reader.{IsOneLine};
 
 use crate::{Entry, Event, EventReader, LineError, LineFault, Next};
 use label_lattice::Lattice;

@@ -1,8 +1,10 @@
-pub mod Pieces
-pub mod FacetTexts
-pub mod Noninterference
-pub mod LineTexts
-pub mod Refusals
-pub mod Playing
 pub mod Calls
-pub mod Ends
+pub mod Endings
+pub mod Noninterference
+pub mod Pieces
+pub mod Playing
+pub mod Policies
+pub mod Refusals
+pub mod Slices
+pub mod StepsInTurn
+pub mod Written

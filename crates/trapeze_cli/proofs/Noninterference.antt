@@ -10,8 +10,9 @@ use Rattle.facet_list.specs.Views.{visible_writes, visible_facets}
 use Rattle.facet_list.proofs.Puts.{noninterfering_puts}
 use Rattle.event_file.specs.declared.entry.Event.{Event}
 use Rattle.event_file.specs.declared.entry.Event.TheVariants.{Put}
-use Rattle.trapeze_cli.specs.Lines.{Line, visible}
-use Rattle.trapeze_cli.specs.Play.{start, event_label, visible_events, write_of, full_line, play, trace, facet_line, whole, IsNoninterfering}
+use Rattle.trapeze_lines.specs.declared.line.Line.{Line}
+use Rattle.trapeze_lines.specs.Lines.{visible}
+use Rattle.trapeze_cli.specs.Rules.{start, event_label, visible_events, write_of, full_line, play, trace, facet_line, whole, IsNoninterfering}
 
 -- the lines that events give are those of the puts that are refused
 pub trace_puts : (limits : List Limits) (w : List Write) (events : List Event) → trace limits (start w) events ≡ map full_line (refused limits w (map write_of events))
@@ -36,11 +37,11 @@ kept_of_map f p q same (x ∷ xs) =
 module _ (flows : ℕ → ℕ → Bool) (o : ℕ) where
   -- the lines that are seen of refusals are those of the refusals that are seen
   visible_refusals : (ws : List Write) → visible flows o (map full_line ws) ≡ map full_line (visible_writes flows o ws)
-  visible_refusals ws = kept_of_map full_line (λ (line : Line). flows line.label o) (λ (x : Write). flows x.label o) (λ x. refl) ws
+  visible_refusals ws = kept_of_map full_line (λ (line : Line). flows line.label.number o) (λ (x : Write). flows x.label o) (λ x. refl) ws
 
   -- and likewise of facets
   visible_lines : (fs : List Facet) → visible flows o (map facet_line fs) ≡ map facet_line (visible_facets flows o fs)
-  visible_lines fs = kept_of_map facet_line (λ (line : Line). flows line.label o) (λ (f : Facet). flows f.0.1 o) (λ f. refl) fs
+  visible_lines fs = kept_of_map facet_line (λ (line : Line). flows line.label.number o) (λ (f : Facet). flows f.0.1 o) (λ f. refl) fs
 
   label_of_write : (event : Event) → flows (write_of event).label o ≡ flows (event_label event) o
   label_of_write (Put label key value) = refl
@@ -88,7 +89,7 @@ module _ (flows : ℕ → ℕ → Bool) (o : ℕ) where
 
     both_seen : (w made : List Write) → visible flows o (given w made ++ left w made)
         ≡ given (visible_writes flows o w) (visible_writes flows o made) ++ left (visible_writes flows o w) (visible_writes flows o made)
-    both_seen w made = filter-append (λ (line : Line). flows line.label o) (given w made) (left w made)
+    both_seen w made = filter-append (λ (line : Line). flows line.label.number o) (given w made) (left w made)
         ∙ ap (λ lines. lines ++ visible flows o (left w made)) (given_seen w made)
         ∙ ap (λ lines. given (visible_writes flows o w) (visible_writes flows o made) ++ lines) (left_seen w made)
 

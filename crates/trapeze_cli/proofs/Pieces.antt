@@ -6,7 +6,7 @@ use Rattle.std.specs.List.{flat_map}
 use Rattle.std.proofs.Math.Seq.{drop-cons, take-append-add}
 use Rattle.std.proofs.lemmas.Grind.{flat_map-append}
 use Rattle.std.proofs.lemmas.List.{take-append-drop, take-append-le}
-use Rattle.trapeze_io.specs.Streams.{AppendsPart}
+use Rattle.trapeze_io.specs.Sinks.{AppendsPart}
 use Rattle.trapeze_cli.specs.Statuses.{Says}
 
 pub append_known-append : (known : Option (List ℕ)) (xs ys : List ℕ) → append_known (append_known known xs) ys ≡ append_known known (xs ++ ys)

@@ -1,12 +1,14 @@
 -- What a call of the program answers, by its words and the files that are held.
-use Rattle.std.specs.Prelude.{ℕ, Bool, List, [], ◌∷◌, length, map, codes, nat_eq, nat_lt, if◌then◌else◌, Option, Some, None, Result, Ok, Err}
-use Rattle.std.specs.Cmp.Lexicographic.{pointwise}
-use Rattle.trapeze_io.specs.Streams.{Held}
+use Rattle.std.specs.Prelude.{ℕ, Bool, List, [], length, map, nat_lt, if◌then◌else◌, Option, Some, None, Result, Ok, Err}
+use Rattle.trapeze_io.specs.Answers.{◌>>=◌}
+use Rattle.trapeze_io.specs.Seen.{Held}
 use Rattle.label_lattice.specs.Reach.{closes}
 use Rattle.label_lattice.specs.Faults.{numbered}
 use Rattle.label_limits.specs.declared.limits.Limits.{Limits}
 use Rattle.policy_toml.specs.Rows.{Reading}
+use Rattle.policy_toml.specs.Parts.{Parts}
 use Rattle.policy_toml.specs.PolicyOf.{Written, policy_of, limits_by_label}
+use Rattle.event_file.specs.Known.{Known}
 use Rattle.event_file.specs.Script.{Entries, entries_of}
 use Rattle.event_file.specs.declared.entry.Event.{Event}
 use Rattle.event_file.specs.declared.fault.LineError.{LineError}
@@ -14,14 +16,10 @@ use Rattle.trapeze_cli.specs.declared.status.Status.{Status}
 use Rattle.trapeze_cli.specs.declared.status.Status.TheVariants.{Done, Usage, Policy, Events, ReadFault, TooLong}
 use Rattle.trapeze_cli.specs.declared.status.Input.{Input}
 use Rattle.trapeze_cli.specs.declared.status.Input.TheVariants.{Policy as policy_input, Events as events_input}
-use Rattle.trapeze_cli.specs.Lines.{Line, text}
-use Rattle.trapeze_cli.specs.Play.{State, start, trace, whole, events_of}
-
--- a reading goes on with what was read, or ends with the first refusal
-infixl 10 ◌>>=◌
-abbrev pub ◌>>=◌ : {A B : Type 0} → Result A Status → (A → Result B Status) → Result B Status
-Ok x >>= f = f x
-Err status >>= f = Err status
+use Rattle.trapeze_lines.specs.declared.line.Line.{Line}
+use Rattle.trapeze_lines.specs.Texts.{text}
+use Rattle.trapeze_cli.specs.Forms.{Form, form_of}
+use Rattle.trapeze_cli.specs.Rules.{State, start, trace, whole, events_of}
 
 -- the most bytes of a policy file
 abbrev pub policy_limit : ℕ
@@ -31,14 +29,10 @@ policy_limit = 1048576
 abbrev pub events_limit : ℕ
 events_limit = 67108864
 
--- the words `run POLICY EVENTS` name two files
-abbrev pub files_of : List (List ℕ) → Option (List ℕ × List ℕ)
-files_of (command ∷ policy ∷ events ∷ []) = if pointwise nat_eq command (codes "run") then Some (policy, events) else None
-files_of words = None
-
-abbrev pub known_form : Option (List ℕ × List ℕ) → Result (List ℕ × List ℕ) Status
+-- a form that the program knows
+abbrev pub known_form : Option Form → Result Form Status
 known_form None = Err Usage
-known_form (Some files) = Ok files
+known_form (Some form) = Ok form
 
 abbrev pub within : ℕ → Input → Option (List ℕ) → Result (List ℕ) Status
 within limit input None = Err (ReadFault input)
@@ -64,14 +58,17 @@ accepted (Err fault) = Err (Policy fault)
 abbrev pub policy_in : Held → List ℕ → Result Written Status
 policy_in held name = file_of held name policy_limit policy_input >>= (λ bytes. accepted (policy_of bytes))
 
--- the entries of a file whose lines may use these labels, clients and functions, up to its first bad line
-abbrev pub entries_in : Held → List ℕ → List (List ℕ) → List (List ℕ) → List (List ℕ) → Result Entries Status
-entries_in held name labels clients functions =
-    file_of held name events_limit events_input >>= (λ bytes. Ok (entries_of labels clients functions bytes))
+-- the entries of a file whose lines may use these names, up to its first bad line
+abbrev pub entries_in : Held → List ℕ → Known → Result Entries Status
+entries_in held name known = file_of held name events_limit events_input >>= (λ bytes. Ok (entries_of known bytes))
 
--- the entries of a file whose lines may use what a policy names
-abbrev pub entries_under : Held → List ℕ → Written → Result Entries Status
-entries_under held name policy = entries_in held name policy.names (map (λ c. c.0) policy.clients) (map (λ f. f.0) policy.functions)
+-- the names that the lines of an event file may use under a policy
+abbrev pub known_under : Written → Known
+known_under policy = record { labels = policy.names; clients = map (λ c. c.0) policy.clients; functions = map (λ f. f.0) policy.functions }
+
+-- the names that they may use under a policy that was read
+abbrev pub known_of : Parts → Known
+known_of policy = record { labels = policy.lattice.names; clients = policy.clients; functions = policy.functions }
 
 -- the policy and the events that a call plays, and the bad line that ends them, if there is one
 pub record Scene : Type 0 where
@@ -79,13 +76,21 @@ pub record Scene : Type 0 where
   pub events : List Event
   pub bad : Option LineError
 
--- the first refusal, in the order of the words, the policy and the event file, or what is played
+-- what is played of the entries of a file
+abbrev pub scene_with : Written → Entries → Scene
+scene_with policy read = record { policy = policy; events = events_of read.entries; bad = read.bad }
+
+-- what is played under a policy, or why its event file is refused
+abbrev pub scene_under : Held → List ℕ → Written → Result Scene Status
+scene_under held events policy = entries_in held events (known_under policy) >>= (λ read. Ok (scene_with policy read))
+
+-- the first refusal, in the order of the policy and the event file, or what is played
+abbrev pub scene_in : Form → Held → Result Scene Status
+scene_in form held = policy_in held form.policy >>= scene_under held form.events
+
+-- the first refusal, in the order of the words and the files, or what is played
 abbrev pub scene_of : List (List ℕ) → Held → Result Scene Status
-scene_of words held = do
-  files ← known_form (files_of words)
-  policy ← policy_in held files.0
-  read ← entries_under held files.1 policy
-  Ok (record { policy = policy; events = events_of read.entries; bad = read.bad })
+scene_of words held = known_form (form_of words) >>= (λ form. scene_in form held)
 
 -- the lines of events: with those of the facets where the file ends, and without where a bad line ends it
 abbrev pub lines_until : Option LineError → List Limits → State → List Event → List Line

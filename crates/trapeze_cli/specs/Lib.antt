@@ -1,6 +1,8 @@
-pub mod Lines
-pub mod Statuses
-pub mod Play
 pub mod Command
+pub mod Forms
+pub mod Played
 pub mod Promises
+pub mod Rules
+pub mod Statuses
 pub mod Steps
+pub mod Whys

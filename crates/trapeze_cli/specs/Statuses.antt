@@ -1,12 +1,11 @@
 -- The statuses of a call, their numbers and their lines on the error sink.
-use Rattle.std.specs.Prelude.{◌≡◌, ℕ, List, [], ◌++◌, ◌⊎◌, codes, decimal, slice_index_or, Option}
+use Rattle.std.specs.Prelude.{◌≡◌, ℕ, List, [], ◌++◌, ◌⊎◌, codes, decimal, Option}
 use Rattle.std.specs.Io.KnownBytes.{append_known}
 use Rattle.trapeze_io.specs.Causes.{Rose}
-use Rattle.trapeze_io.specs.Streams.{AppendsPart}
+use Rattle.trapeze_io.specs.Sinks.{AppendsPart}
+use Rattle.trapeze_cli.specs.Forms.{form_of, file_name}
 use Rattle.trapeze_cli.specs.declared.status.Status.{Status}
 use Rattle.trapeze_cli.specs.declared.status.Status.TheVariants.{Done, Usage, Policy, Events, ReadFault, WriteFault, NoMemory, TooLong}
-use Rattle.trapeze_cli.specs.declared.status.Input.{Input}
-use Rattle.trapeze_cli.specs.declared.status.Input.TheVariants.{Policy as policy_input, Events as events_input}
 use Rattle.label_lattice.specs.declared.label.Label.{Label}
 use Rattle.label_lattice.specs.declared.error.LatticeError.{LatticeError}
 use Rattle.label_lattice.specs.declared.error.LatticeError.TheVariants as lattice
@@ -39,50 +38,46 @@ part_name part.Channels = codes "channels"
 part_name part.Clients = codes "clients"
 
 -- a fault of a policy at its place: the part, the row and the item
-abbrev pub placed : List ℕ → Place → List ℕ
-placed kind place =
-    codes "policy: " ++ kind ++ codes " " ++ part_name place.part ++ codes " " ++ decimal place.row ++ codes " " ++ decimal place.item ++ codes "\n"
+abbrev pub place_text : List ℕ → Place → List ℕ
+place_text kind place =
+    codes "policy: " ++ kind ++ codes " " ++ part_name place.part ++ codes " "
+    ++ decimal place.row ++ codes " " ++ decimal place.item ++ codes "\n"
 
 -- a fault of a lattice at a position of its list, or of two labels
-abbrev pub numbered : List ℕ → ℕ → List ℕ
-numbered kind position = codes "policy: lattice " ++ kind ++ codes " " ++ decimal position ++ codes "\n"
+abbrev pub position_text : List ℕ → ℕ → List ℕ
+position_text kind position = codes "policy: lattice " ++ kind ++ codes " " ++ decimal position ++ codes "\n"
 
-abbrev pub of_two : List ℕ → Label → Label → List ℕ
-of_two kind a b = codes "policy: lattice " ++ kind ++ codes " " ++ decimal a.number ++ codes " " ++ decimal b.number ++ codes "\n"
+abbrev pub pair_text : List ℕ → Label → Label → List ℕ
+pair_text kind a b = codes "policy: lattice " ++ kind ++ codes " " ++ decimal a.number ++ codes " " ++ decimal b.number ++ codes "\n"
 
 -- the line of a lattice's fault
 abbrev pub lattice_text : LatticeError → List ℕ
 lattice_text lattice.NoLabels = codes "policy: lattice no-labels\n"
 lattice_text lattice.TooMany = codes "policy: lattice too-many\n"
-lattice_text (lattice.BadName position) = numbered (codes "bad-name") position
-lattice_text (lattice.Repeated position) = numbered (codes "repeated") position
-lattice_text (lattice.UnknownLabel position) = numbered (codes "unknown-label") position
-lattice_text (lattice.Cycle a b) = of_two (codes "cycle") a b
-lattice_text (lattice.NoJoin a b) = of_two (codes "no-join") a b
-lattice_text (lattice.NoMeet a b) = of_two (codes "no-meet") a b
+lattice_text (lattice.BadName position) = position_text (codes "bad-name") position
+lattice_text (lattice.Repeated position) = position_text (codes "repeated") position
+lattice_text (lattice.UnknownLabel position) = position_text (codes "unknown-label") position
+lattice_text (lattice.Cycle a b) = pair_text (codes "cycle") a b
+lattice_text (lattice.NoJoin a b) = pair_text (codes "no-join") a b
+lattice_text (lattice.NoMeet a b) = pair_text (codes "no-meet") a b
 lattice_text lattice.NoMemory = codes "out of memory\n"
 
 -- the line of a policy's fault
 abbrev pub policy_text : PolicyError → List ℕ
 policy_text policy.Toml = codes "policy: toml\n"
-policy_text (policy.Extra place) = placed (codes "extra") place
-policy_text (policy.Missing place) = placed (codes "missing") place
-policy_text (policy.WrongKind place) = placed (codes "wrong-kind") place
+policy_text (policy.Extra place) = place_text (codes "extra") place
+policy_text (policy.Missing place) = place_text (codes "missing") place
+policy_text (policy.WrongKind place) = place_text (codes "wrong-kind") place
 policy_text (policy.Lattice fault) = lattice_text fault
-policy_text (policy.BadName place) = placed (codes "bad-name") place
-policy_text (policy.UnknownLabel place) = placed (codes "unknown-label") place
-policy_text (policy.UnknownFunction place) = placed (codes "unknown-function") place
-policy_text (policy.OutOfRange place) = placed (codes "out-of-range") place
+policy_text (policy.BadName place) = place_text (codes "bad-name") place
+policy_text (policy.UnknownLabel place) = place_text (codes "unknown-label") place
+policy_text (policy.UnknownFunction place) = place_text (codes "unknown-function") place
+policy_text (policy.OutOfRange place) = place_text (codes "out-of-range") place
 policy_text policy.NoMemory = codes "out of memory\n"
 
 -- the end of the line of a bad line of the event file, by its fault
 abbrev pub fault_text : LineFault → List ℕ
 fault_text Word = codes ": word\n"
-
--- the name of the file that an input is, by the words of the call
-abbrev pub file_name : List (List ℕ) → Input → List ℕ
-file_name words policy_input = slice_index_or words 1 []
-file_name words events_input = slice_index_or words 2 []
 
 -- the line of a status on the error sink: nothing after Done
 abbrev pub error_text : List (List ℕ) → Status → List ℕ
@@ -90,11 +85,11 @@ error_text words Done = []
 error_text words Usage = codes "usage: trapeze run POLICY EVENTS | trace POLICY EVENTS | view POLICY EVENTS LABEL | check POLICY | exercise N\n"
 error_text words (Policy fault) = policy_text fault
 error_text words (Events error) = codes "events line " ++ decimal error.line ++ fault_text error.fault
-error_text words (ReadFault input) = codes "cannot read " ++ file_name words input ++ codes "\n"
+error_text words (ReadFault input) = codes "cannot read " ++ file_name (form_of words) input ++ codes "\n"
 error_text words WriteFault = codes "cannot write output\n"
 error_text words NoMemory = codes "out of memory\n"
-error_text words (TooLong input) = codes "too long: " ++ file_name words input ++ codes "\n"
+error_text words (TooLong input) = codes "too long: " ++ file_name (form_of words) input ++ codes "\n"
 
--- the text was appended, or a proper front of it where the sink's count rose
+-- the text was appended, or a prefix of it that is not all where the sink's count rose
 abbrev pub Says : Option (List ℕ) → Option (List ℕ) → ℕ → ℕ → List ℕ → Type 0
 Says old new before now text = (new ≡ append_known old text) ⊎ (AppendsPart old new text × Rose before now)

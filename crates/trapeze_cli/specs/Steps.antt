@@ -1,69 +1,24 @@
--- What the steps of a call answer, against the definition of the whole.
-use Rattle.std.specs.Prelude.{◌≡◌, ℕ, ◌<◌, ⊤, List, [], ◌++◌, IfSome, Option, None, Some, Result, Err}
-use Rattle.trapeze_io.specs.Causes.{Rose}
-use Rattle.label_limits.specs.declared.limits.Limits.{Limits}
-use Rattle.facet_list.specs.Store.{Write}
-use Rattle.facet_list.specs.Rows.{Rows, rows_of, IsKey, IsValue}
-use Rattle.event_file.specs.Script.{Entries, after}
-use Rattle.event_file.specs.Reading.{Reading, entries_with}
-use Rattle.event_file.specs.declared.fault.LineError.{LineError}
-use Rattle.event_file.specs.declared.entry.Entry.{Entry}
-use Rattle.event_file.specs.declared.entry.Entry.TheVariants.{One}
-use Rattle.event_file.specs.declared.entry.Event.{Event}
-use Rattle.event_file.specs.declared.entry.Event.TheVariants.{Put}
+-- How a step of a call that reads some of its files ends.
+use Rattle.std.specs.Prelude.{◌≡◌, ⊤, List, IfSome, Result, Ok, Err}
+use Rattle.trapeze_io.specs.Seen.{Seen, Held, OpensAll}
 use Rattle.trapeze_cli.specs.declared.status.Status.{Status}
-use Rattle.trapeze_cli.specs.declared.status.Status.TheVariants.{Done, Usage, Policy, Events, ReadFault, WriteFault, NoMemory, TooLong}
-use Rattle.trapeze_cli.specs.declared.status.Input.{Input}
-use Rattle.trapeze_cli.specs.Lines.{text}
-use Rattle.trapeze_cli.specs.Play.{start, play, trace, events_of}
+use Rattle.trapeze_cli.specs.Forms.{Source}
+use Rattle.trapeze_cli.specs.Whys.{Why, Played, Refused, ReadFailed, WriteFailed, OutOfMemory, why, names_of, FailsToRead, OpensTo}
 
--- a step past the words that does not go on ends with the refusal that the definition gives where the files are told, with a counted
--- fault of this input, or with want of memory
-abbrev pub Ends : {X : Type 0} → Option (Result X Status) → (Input → Type 0) → Status → Type 0
-Ends expected F (ReadFault input) = F input
-Ends expected F NoMemory = ⊤
-Ends expected F Done = ⊥
-Ends expected F WriteFault = ⊥
-Ends expected F Usage = ⊥
-Ends expected F (Policy fault) = IfSome expected (λ e. e ≡ Err (Policy fault))
-Ends expected F (Events error) = ⊥
-Ends expected F (TooLong input) = IfSome expected (λ e. e ≡ Err (TooLong input))
+-- what holds of a step that ended the call, by the reason of the status: a refusal is the one that the files say
+abbrev pub IsRefused : {X : Type 0} → (Held → Result X Status) → Seen → Seen → Status → Why → Type 0
+IsRefused step old new status Played = ⊥
+IsRefused step old new status Refused = IfSome old.held (λ held. step held ≡ Err status)
+IsRefused step old new status (ReadFailed input) = FailsToRead old new
+IsRefused step old new status WriteFailed = ⊥
+IsRefused step old new status OutOfMemory = ⊤
 
--- the count rose in the step and since its open, and the input is the one that is read
-pub record IsFaultOf (input : Input) (before now mark : ℕ) (at : Input) : Type 0 where
-  pub same : at ≡ input
-  pub rose : Rose before now
-  pub marked : Rose mark now
+-- a step over these files ended the call with a status: they were opened up to the one that the status is of
+pub record Ends {X : Type 0} (sources : List Source) (step : Held → Result X Status) (status : Status) (old new : Seen) : Type 0 where
+  pub opens : OpensTo sources status old new
+  pub refused : IsRefused step old new status (why status)
 
--- an event is at a label below the count, and its key and value are within their sizes
-abbrev pub IsFitEvent : ℕ → Event → Type 0
-IsFitEvent labels (Put label key value) = (label.number < labels) × IsKey key × IsValue value
-
-abbrev pub IsFitEntry : ℕ → Entry → Type 0
-IsFitEntry labels (One event) = IsFitEvent labels event
-
--- from a store of these writes the events were played: the rows are those of the state that they leave, and the text of their lines
--- was added
-pub record IsPlayed (names : List (List ℕ)) (limits : List Limits) (events : List Event) (w : List Write) (now : Rows) (told told_now : List ℕ) : Type 0 where
-  pub store : now ≡ rows_of (play limits (start w) events).store
-  pub lines : told_now ≡ told ++ text names (trace limits (start w) events)
-
--- the events were played, from any writes of which the rows are
-abbrev pub ArePlayed : List (List ℕ) → List Limits → List Event → Rows → Rows → List ℕ → List ℕ → Type 0
-ArePlayed names limits events before now told told_now =
-    (w : List Write) → before ≡ rows_of w → IsPlayed names limits events w now told told_now
-
--- some entries were read, and their events were played
-pub record Plays (names : List (List ℕ)) (limits : List Limits) (before now : Rows) (told told_now : List ℕ) (here there : Entries) : Type 0 where
-  pub entries : List Entry
-  pub read : here ≡ after entries there
-  pub played : ArePlayed names limits (events_of entries) before now told told_now
-
--- no entry is left, but perhaps a bad line
-abbrev pub ending : Option LineError → Entries
-ending bad = record { entries = []; bad = bad }
-
--- what is left of a reading once a bad line was met in it, or none
-abbrev pub left_after : Option LineError → Reading → Entries
-left_after None reading = entries_with reading []
-left_after (Some bad) reading = ending (Some bad)
+-- a step over these files opened them all and goes on, or ended the call
+abbrev pub Steps : {A X : Type 0} → List Source → (Held → Result X Status) → Seen → Seen → Result A Status → Type 0
+Steps sources step old new (Ok x) = OpensAll (names_of sources) old new
+Steps sources step old new (Err status) = Ends sources step status old new

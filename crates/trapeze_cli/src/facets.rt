@@ -1,35 +1,51 @@
 //! The lines of the live facets of a store.
 
-ghost use Rattle.std.specs.Prelude.{◌≡◌, ◌++◌, length, map, OnOk, List};
+ghost use Rattle.std.specs.Prelude.{◌≡◌, ◌++◌, length, map, OnOk, IfOk};
+ghost use Rattle.std.specs.Option.{option_copied};
 ghost use Rattle.label_lattice.specs.Order.{count};
-ghost use Rattle.facet_list.specs.Store.{Write, facets};
-ghost use Rattle.facet_list.specs.Rows.{rows_of};
-ghost use Rattle.trapeze_cli.specs.Lines.{text};
-ghost use Rattle.trapeze_cli.specs.Play.{facet_line};
+ghost use Rattle.facet_list.specs.Rows.{facets_in};
+ghost use Rattle.trapeze_lines.specs.Texts.{text};
+ghost use Rattle.trapeze_cli.specs.Rules.{facet_line};
 
-use crate::lines::add_facet;
 use facet_list::Facets;
-use label_lattice::Lattice;
+use label_lattice::{Label, Lattice};
 use std::alloc::Global;
 use trapeze_io::{Bytes, NoMemory};
+use trapeze_lines::{Kind, Line, write_text};
 
 /// Adds the lines of the live facets, by key in byte order and then by label.
 pub(crate) fn add_facets<T: Facets>(
     alloc: Global,
     lattice: &Lattice,
     store: &T,
-    told: &mut Bytes,
+    out: &mut Bytes,
 ) -> Result<(), NoMemory>
     requires { length (T.limits store.now) ≡ count lattice.now }
-    ensures { OnOk result ((w : List Write) → T.rows store.now ≡ rows_of w → told.new ≡ told.old ++ text lattice.now.names (map facet_line (facets w))) }
+    ensures { OnOk result (out.new ≡ out.old ++ text lattice.now.names (map facet_line (facets_in (T.rows store.now)))) }
 {
     let mut after = None;
-    'facets: for _ in 0..u64::MAX {
-        let Some((key, label, value)) = store.next_facet(after) else {
-            return Ok(());
-        };
-        add_facet(alloc, told, lattice, label, key.as_slice(), value)?;
+    'facets: while let Some((key, label, value)) = store.next_facet(after) {
+        let line = facet_line(alloc, key.as_slice(), label, value)?;
+        write_text(alloc, &line, lattice, out)?;
         after = Some((key, label));
     }
-    Err(NoMemory)
+    Ok(())
+}
+
+/// The line of a live facet.
+fn facet_line(
+    alloc: Global,
+    key: &[u8],
+    label: Label,
+    value: Option<&[u8]>,
+) -> Result<Line, NoMemory>
+    ensures { IfOk result (λ line. line ≡ facet_line ((key.now, label.number), option_copied value.entry)) }
+{
+    let key = Bytes::copy(alloc, key)?;
+    let value = match value {
+        Some(value) => Some(Bytes::copy(alloc, value)?),
+        None => None,
+    };
+    let kind = Kind::Facet { key, value };
+    Ok(Line { label, kind })
 }

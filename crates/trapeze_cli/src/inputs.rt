@@ -1,11 +1,10 @@
 //! The files that a call reads.
 
-ghost use Rattle.std.specs.Prelude.{◌≡◌, ◌≤◌, length, IfOk, IfErr, IfSome, IsOkAnd, option_map};
-ghost use Rattle.trapeze_io.specs.Streams.{one_more_open};
+ghost use Rattle.std.specs.Prelude.{◌≡◌, ◌≤◌, ◌⊎◌, ◌∷◌, [], length, IfOk, IfErr, IfSome, IsOkAnd};
 ghost use Rattle.policy_toml.specs.PolicyOf.{IsAsWritten};
 ghost use Rattle.trapeze_cli.specs.Command.{file_of, policy_in};
-ghost use Rattle.trapeze_cli.specs.Promises.{IsNoWant};
-ghost use Rattle.trapeze_cli.specs.Steps.{Ends, IsFaultOf};
+ghost use Rattle.trapeze_cli.specs.Promises.{ReadsAll, TellsMemory};
+ghost use Rattle.trapeze_cli.specs.Steps.{Steps};
 
 use crate::status::{Input, Status};
 use label_lattice::LatticeError;
@@ -27,15 +26,12 @@ pub(crate) fn read_input<F: Files>(
     limit: u32,
     input: Input,
 ) -> Result<Bytes, Status>
-    ensures files { F.held files.new ≡ F.held files.old }
-    ensures number { F.opens files.new ≡ one_more_open (F.opens files.old) }
-    ensures name { IfSome (F.last_name files.new) (λ last. last ≡ name.now) }
-    ensures later { F.faults files.old ≤ F.faults files.new }
-    ensures ok { IfOk result (λ bytes. IfSome (F.held files.old) (λ held. file_of held name.now limit input ≡ Ok bytes)) }
+    ensures steps { Steps (record { input = input; name = name.now } ∷ []) (λ held. file_of held name.now limit input)
+        (F.seen files.old) (F.seen files.new) result }
+    ensures ok { IfOk result (λ bytes. IfSome (F.seen files.old).held (λ held. file_of held name.now limit input ≡ Ok bytes)) }
+    ensures all { IfOk result (λ bytes. ReadsAll (F.seen files.old).held name.now (F.seen files.new).current) }
     ensures short { IfOk result (λ bytes. length bytes ≤ limit) }
-    ensures err { IfErr result (λ status. Ends (option_map (λ held. file_of held name.now limit input) (F.held files.old))
-        (IsFaultOf input (F.faults files.old) (F.faults files.new) (F.mark files.new)) status) }
-    ensures memory { IfErr result IsNoWant }
+    ensures memory { IfErr result TellsMemory }
 {
     match read_whole(alloc, files, name, limit) {
         Ok(bytes) => Ok(bytes),
@@ -51,21 +47,26 @@ pub(crate) fn read_rules<F: Files>(
     files: &mut F,
     name: &str,
 ) -> Result<Policy, Status>
-    ensures files { F.held files.new ≡ F.held files.old }
-    ensures number { F.opens files.new ≡ one_more_open (F.opens files.old) }
-    ensures name { IfSome (F.last_name files.new) (λ last. last ≡ name.now) }
-    ensures later { F.faults files.old ≤ F.faults files.new }
-    ensures ok { IfOk result (λ policy. IfSome (F.held files.old) (λ held. IsOkAnd (policy_in held name.now) (λ written. IsAsWritten written policy))) }
-    ensures err { IfErr result (λ status. Ends (option_map (λ held. policy_in held name.now) (F.held files.old))
-        (IsFaultOf Input.Policy (F.faults files.old) (F.faults files.new) (F.mark files.new)) status) }
-    ensures memory { IfErr result IsNoWant }
+    ensures steps { Steps (record { input = Input.Policy; name = name.now } ∷ []) (λ held. policy_in held name.now)
+        (F.seen files.old) (F.seen files.new) result }
+    ensures ok { IfOk result (λ policy. IfSome (F.seen files.old).held (λ held.
+        IsOkAnd (policy_in held name.now) (λ written. IsAsWritten written policy))) }
+    ensures memory { IfErr result TellsMemory }
 {
     let bytes = read_input(alloc, files, name, POLICY_LIMIT, Input::Policy)?;
     match read_policy(alloc, bytes.as_slice()) {
         Ok(policy) => Ok(policy),
-        Err(PolicyError::NoMemory | PolicyError::Lattice(LatticeError::NoMemory)) => {
-            Err(Status::NoMemory)
-        }
-        Err(fault) => Err(Status::Policy(fault)),
+        Err(fault) => Err(refusal(fault)),
+    }
+}
+
+/// How a call ends whose policy is refused. Being out of memory is no fault of a policy.
+fn refusal(fault: PolicyError) -> Status
+    ensures refused { (result ≡ Status.NoMemory) ⊎ (result ≡ Status.Policy fault) }
+    ensures memory { TellsMemory result }
+{
+    match fault {
+        PolicyError::NoMemory | PolicyError::Lattice(LatticeError::NoMemory) => Status::NoMemory,
+        fault => Status::Policy(fault),
     }
 }

@@ -4,9 +4,9 @@
 
 mod command;
 mod facets;
+mod forms;
 mod inputs;
 mod laws;
-mod lines;
 mod play;
 mod report;
 mod status;
@@ -15,6 +15,7 @@ use command::trapeze;
 use report::report;
 use status::Status;
 use std::env;
+use std::io::ErrorKind;
 use std::process::ExitCode;
 use trapeze_io::{RealFiles, RealSink, Sink};
 
@@ -23,22 +24,28 @@ fn main(rt: HostRuntime) -> ExitCode {
     let mut out = RealSink::new(rt.stdout());
     let mut err = RealSink::new(rt.stderr());
     let mut words = Vec::new(rt.alloc());
-    let Ok(arguments) = env::args(&rt) else {
-        return out_of_memory(&mut err);
-    };
-    for word in arguments.skip(1) {
-        if words.push(word).is_err() {
-            return out_of_memory(&mut err);
+    match env::args(&rt) {
+        Ok(arguments) => {
+            for word in arguments.skip(1) {
+                if words.push(word).is_err() {
+                    return end(&mut err, Status::NoMemory);
+                }
+            }
         }
+        // A word that is no text is of no form.
+        Err(error) if error.kind() == ErrorKind::InvalidData => {
+            return end(&mut err, Status::Usage);
+        }
+        Err(_) => return end(&mut err, Status::NoMemory),
     }
     let status = trapeze(rt.alloc(), words.as_slice(), &mut files, &mut out, &mut err);
     ExitCode::from(status.code())
 }
 
-/// The end of a program whose words found no memory.
-fn out_of_memory<E: Sink>(err: &mut E) -> ExitCode {
-    report(err, Status::NoMemory, &[]);
-    ExitCode::from(Status::NoMemory.code())
+/// The end of a program whose words could not be read.
+fn end<E: Sink>(err: &mut E, status: Status) -> ExitCode {
+    report(err, status, &[]);
+    ExitCode::from(status.code())
 }
 
 #[cfg(test)]

@@ -4,9 +4,11 @@ ghost use Rattle.std.specs.Prelude.{map, string_bytes, ◌≡◌, OnOk, OnErr};
 ghost use Rattle.std.specs.List.{flat_map};
 ghost use Rattle.std.specs.Io.KnownBytes.{append_known};
 ghost use Rattle.trapeze_io.specs.Causes.{HasCause};
-ghost use Rattle.trapeze_io.specs.Streams.{AppendsPart};
-ghost use Rattle.trapeze_cli.specs.Statuses.{Says, error_text, policy_text, lattice_text, placed, numbered, of_two, part_name, fault_text, file_name};
+ghost use Rattle.trapeze_io.specs.Sinks.{AppendsPart};
+ghost use Rattle.trapeze_cli.specs.Statuses.{Says, error_text, policy_text, lattice_text, place_text, position_text, pair_text, part_name, fault_text};
+ghost use Rattle.trapeze_cli.specs.Forms.{form_of, file_name};
 
+use crate::forms::form_of;
 use crate::status::{Input, Status};
 use event_file::LineFault;
 use itoa::Buffer;
@@ -59,7 +61,7 @@ fn report_policy<E: Sink>(err: &mut E, fault: PolicyError)
 }
 
 fn report_place<E: Sink>(err: &mut E, kind: &[u8], place: Place)
-    ensures { Says (E.written err.old) (E.written err.new) (E.faults err.old) (E.faults err.new) (placed kind.now place) }
+    ensures { Says (E.written err.old) (E.written err.new) (E.faults err.old) (E.faults err.new) (place_text kind.now place) }
 {
     let mut row_digits = Buffer::new();
     let mut item_digits = Buffer::new();
@@ -99,7 +101,7 @@ fn report_lattice<E: Sink>(err: &mut E, fault: LatticeError)
 }
 
 fn report_position<E: Sink>(err: &mut E, kind: &[u8], position: u64)
-    ensures { Says (E.written err.old) (E.written err.new) (E.faults err.old) (E.faults err.new) (numbered kind.now position) }
+    ensures { Says (E.written err.old) (E.written err.new) (E.faults err.old) (E.faults err.new) (position_text kind.now position) }
 {
     let mut digits = Buffer::new();
     let number = digits.format(position);
@@ -110,7 +112,7 @@ fn report_position<E: Sink>(err: &mut E, kind: &[u8], position: u64)
 }
 
 fn report_labels<E: Sink>(err: &mut E, kind: &[u8], a: Label, b: Label)
-    ensures { Says (E.written err.old) (E.written err.new) (E.faults err.old) (E.faults err.new) (of_two kind.now a b) }
+    ensures { Says (E.written err.old) (E.written err.new) (E.faults err.old) (E.faults err.new) (pair_text kind.now a b) }
 {
     let mut first_digits = Buffer::new();
     let mut second_digits = Buffer::new();
@@ -154,21 +156,21 @@ fn fault_text(fault: LineFault) -> &'static [u8]
 
 /// The name of the file that an input is.
 fn file_name(words: &[String], input: Input) -> &[u8]
-    ensures { result.now ≡ file_name (map string_bytes words.now) input }
+    ensures { result.now ≡ file_name (form_of (map string_bytes words.now)) input }
 {
-    let at = match input {
-        Input::Policy => 1,
-        Input::Events => 2,
+    let Some(form) = form_of(words) else {
+        return b"";
     };
-    match words.get(at) {
-        Some(word) => word.as_bytes(),
-        None => b"",
+    match input {
+        Input::Policy => form.policy.as_bytes(),
+        Input::Events => form.events.as_bytes(),
     }
 }
 
 /// Writes pieces, one after the other, as far as the sink takes them.
 fn say<E: Sink>(err: &mut E, pieces: &[&[u8]])
-    ensures { Says (E.written err.old) (E.written err.new) (E.faults err.old) (E.faults err.new) (flat_map (λ piece. piece.now) pieces.now) }
+    ensures { Says (E.written err.old) (E.written err.new) (E.faults err.old) (E.faults err.new)
+        (flat_map (λ piece. piece.now) pieces.now) }
 {
     let _ = write_pieces(err, pieces);
 }

@@ -145,11 +145,11 @@ fn a_sink_that_takes_five_bytes_at_a_time_gets_the_whole_line(rt: HostRuntime) -
 }
 
 #[test]
-fn a_sink_that_fails_in_mid_line_has_a_proper_front_of_it(rt: HostRuntime) -> Result<(), Fail> {
+fn a_sink_that_fails_in_mid_line_has_a_prefix_of_it(rt: HostRuntime) -> Result<(), Fail> {
     let alloc = rt.alloc();
     let words = words(alloc)?;
     // The pieces are `cannot read `, in three calls, then `p.toml` in two, then the line's end in one.
-    for (failing, front) in [
+    for (failing, prefix) in [
         (1, ""),
         (2, "canno"),
         (3, "cannot rea"),
@@ -161,7 +161,7 @@ fn a_sink_that_fails_in_mid_line_has_a_proper_front_of_it(rt: HostRuntime) -> Re
         err.step(5);
         err.fail_at(failing)?;
         report(&mut err, Status::ReadFault(Input::Policy), words.as_slice());
-        assert!(rt; err.written() == front.as_bytes(), "{front}");
+        assert!(rt; err.written() == prefix.as_bytes(), "{prefix}");
     }
     Ok(())
 }

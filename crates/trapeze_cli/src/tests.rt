@@ -264,7 +264,7 @@ fn files_that_fail_or_are_not_there_are_named(rt: HostRuntime) -> Result<(), Fai
     let mut files = MemFiles::new(alloc);
     files.hold("p.toml", FOUR.as_bytes())?;
     assert!(rt; ends(alloc, &mut files, 5, "", "cannot read e.txt\n")?);
-    // Calls 1 to 3 are the open of the policy and its reads, 4 to 6 those of the event file.
+    // Calls 1 to 3 are the open of the policy and its reads, 4 to 6 those of the event file; there is no other call.
     for (call, error) in [
         (1, "cannot read p.toml\n"),
         (2, "cannot read p.toml\n"),
@@ -276,11 +276,38 @@ fn files_that_fail_or_are_not_there_are_named(rt: HostRuntime) -> Result<(), Fai
         assert!(rt; ends(alloc, &mut files, 5, "", error)?);
         assert!(rt; ends(alloc, &mut files, 0, FACETS, "")?);
     }
+    let mut files = held(alloc, FOUR, PUTS)?;
+    files.fail_at(7)?;
+    assert!(rt; ends(alloc, &mut files, 0, FACETS, "")?);
     Ok(())
 }
 
 #[test]
-fn an_output_that_fails_has_a_front_of_the_text(rt: HostRuntime) -> Result<(), Fail> {
+fn a_line_may_lie_in_two_slices(rt: HostRuntime) -> Result<(), Fail> {
+    let alloc = rt.alloc();
+    // The reader is fed 65,536 bytes at a time. The line of the put begins before that place, there, or behind it.
+    for remark in [65_525, 65_535, 65_536] {
+        let mut events = String::from_str(alloc, "#")?;
+        for _ in 1..remark {
+            events.push_str("#")?;
+        }
+        events.push_str("\nput low x6b x01\nput alice x6b x02")?;
+        let mut files = held(alloc, FOUR, events.as_str())?;
+        assert!(rt;
+            ends(
+                alloc,
+                &mut files,
+                0,
+                "facet low x6b x01\nfacet alice x6b x02\n",
+                ""
+            )?
+        );
+    }
+    Ok(())
+}
+
+#[test]
+fn an_output_that_fails_has_a_prefix_of_the_text(rt: HostRuntime) -> Result<(), Fail> {
     let alloc = rt.alloc();
     for (call, text) in [(1, ""), (3, "facet low ")] {
         let mut files = held(alloc, FOUR, PUTS)?;

@@ -1,7 +1,7 @@
 use Rattle.std.proofs.Common.{List, ℕ, [], arith}
 use Rattle.std.specs.List.Sorted.{IsStrictlySortedBy}
 use Rattle.trapeze_io.specs.Names.{Ascend}
-use Rattle.event_file.specs.Reading.{IsNumbered}
+use Rattle.event_file.specs.Reader.{IsNumbered}
 use Rattle.event_file.proofs.tests.after_the_end_there_is_no_line.Goals as goal
 
 no_names : Ascend []

@@ -1,5 +1,5 @@
 use Rattle.std.proofs.Common.{◌≡◌, None, false}
-use Rattle.event_file.specs.Reading.{IsOneLine}
+use Rattle.event_file.specs.Reader.{IsOneLine}
 use Rattle.event_file.proofs.tests.script.Given as goal
 
 abbrev pub invariant-bytes : goal.invariant-bytes

@@ -1,10 +1,20 @@
-use Rattle.std.proofs.Common.{ap, map, string_bytes}
-use Rattle.trapeze_cli.specs.Command.{scene_of}
-use Rattle.trapeze_cli.proofs.Refusals.{IfSome-map, IsOkAnd-map}
-use Rattle.trapeze_cli.proofs.Calls.{private}
+use Rattle.std.proofs.Common.{map, string_bytes, sym}
+use Rattle.std.specs.Prelude.{Option}
+use Rattle.trapeze_cli.specs.Forms.{Form}
+use Rattle.trapeze_cli.specs.Whys.{Opened}
+use Rattle.trapeze_cli.proofs.Endings.{of_words}
+use Rattle.trapeze_cli.proofs.Written.{played_private, played_opens}
 use Rattle.trapeze_cli.proofs.command.answer.Goals as goal
 
-pub returns-in-Ok-write_whole-clause-private : goal.returns-in-Ok-write_whole-clause-private
-returns-in-Ok-write_whole-clause-private g c = λ _. IfSome-map (g.F.Files.held c.args.files.now)
-    (λ h k. IsOkAnd-map (scene_of (map string_bytes c.args.words.now) h) (λ scene so. private _ _ _ scene c.in-Ok.played.bad c.in-Ok.played.text (ap (λ p. p.bad) so) (ap (λ p. p.text) so) c.status_of.ensures
-    (rw c.as_slice.ensures at c.in-Ok-write_whole.ensures.all)) k) c.in-Ok.ensures.ok
+pub returns-in-Ok-clause-private : goal.returns-in-Ok-clause-private
+returns-in-Ok-clause-private g c =
+    let words = map string_bytes c.args.words.now in
+    played_private words c.in-Some.form c.in-Ok.played (g.F.Files.seen c.args.files.now).held c.write_played.result _ _ _ _ (sym c.in-Some.ensures) c.in-Ok.ensures.ok c.write_played.ensures
+
+pub returns-in-Ok-clause-opened : goal.returns-in-Ok-clause-opened
+returns-in-Ok-clause-opened g c =
+    let words = map string_bytes c.args.words.now in
+    let old = g.F.Files.seen c.args.files.now in
+    let new = g.F.Files.seen c.play_form.new.files in
+    of_words (λ (o : Option Form). Opened o c.write_played.result old new) words c.in-Some.form (sym c.in-Some.ensures)
+    (played_opens c.in-Some.form c.in-Ok.played c.write_played.result _ _ _ _ old new c.write_played.ensures c.in-Ok.ensures.steps)

@@ -1,11 +1,33 @@
-use Rattle.std.proofs.Common.{ap, Err}
-use Rattle.trapeze_cli.proofs.Refusals.{too_long, IfSome-map}
+use Rattle.std.proofs.Common.{ap, refl, Err}
+use Rattle.trapeze_io.proofs.Opens.{OpensAll-one}
+use Rattle.trapeze_cli.proofs.Refusals.{too_long, reads_all, IfSome-map}
+use Rattle.trapeze_cli.proofs.StepsInTurn.{opens_one, read_failed}
 use Rattle.trapeze_cli.proofs.inputs.read_input.Goals as goal
 
-pub returns-in-Err-TooLong-clause-err : goal.returns-in-Err-TooLong-clause-err
-returns-in-Err-TooLong-clause-err g c =
+pub returns-in-Ok-clause-all : goal.returns-in-Ok-clause-all
+returns-in-Ok-clause-all g c = reads_all _ _ _ _ _ c.in-Ok.ensures.whole c.in-Ok.ensures.file
+
+pub returns-in-Ok-clause-steps : goal.returns-in-Ok-clause-steps
+returns-in-Ok-clause-steps g c = OpensAll-one _ _ _ c.in-Ok.ensures.one
+
+pub returns-in-Err-Fault-clause-steps : goal.returns-in-Err-Fault-clause-steps
+returns-in-Err-Fault-clause-steps g c =
+    let told = c.in-Err-Fault.ensures in record {
+      opens = opens_one _ _ _ _ (OpensAll-one _ _ _ told.one) refl;
+      refused = read_failed _ _ _ told.one (told.fault (ap Err c.in-Err-Fault.field-0-is));
+    }
+
+pub returns-in-Err-TooLong-clause-steps : goal.returns-in-Err-TooLong-clause-steps
+returns-in-Err-TooLong-clause-steps g c =
     let told = c.in-Err-TooLong.ensures in
-    too_long (g.F.Files.held c.args.files.now) c.args.name.now c.args.limit c.args.input (g.F.Files.reading c.read_whole.new.files)
-    (λ t. g.met.F.Files.tells c.read_whole.new.files (rw told.files t))
-    (IfSome-map (g.F.Files.reading c.read_whole.new.files) (λ r k. k.0 (ap Err c.in-Err-TooLong.field-0-is)) told.too_long)
-    told.front
+    let new = g.F.Files.seen c.read_whole.new.files in record {
+      opens = opens_one _ _ _ _ (OpensAll-one _ _ _ told.one) refl;
+      refused =
+          too_long (g.F.Files.seen c.args.files.now).held c.args.name.now c.args.limit c.args.input new.current
+          (λ t. g.met.F.Files.tells c.read_whole.new.files (rw told.one.held t))
+          (IfSome-map new.current (λ r k. k.0 (ap Err c.in-Err-TooLong.field-0-is)) told.too_long) told.prefix;
+    }
+
+pub returns-in-Err-NoMemory-clause-steps : goal.returns-in-Err-NoMemory-clause-steps
+returns-in-Err-NoMemory-clause-steps g c =
+    let told = c.in-Err-NoMemory.ensures in record { opens = opens_one _ _ _ _ (OpensAll-one _ _ _ told.one) tt; refused = tt }

@@ -1,28 +1,44 @@
-use Rattle.std.proofs.Common.{◌∙◌, ℕ, List, ap, subst, [], ◌++◌}
-use Rattle.std.specs.Prelude.{OnOk}
-use Rattle.trapeze_cli.specs.Play.{events_of}
-use Rattle.event_file.specs.Script.{Entries, entries_of}
-use Rattle.event_file.specs.Reading.{entries_with}
-use Rattle.trapeze_cli.specs.Steps.{ArePlayed, Plays, left_after}
-use Rattle.trapeze_cli.proofs.Playing.{all_played, fed_entries, numbered_clients, numbered_functions}
+use Rattle.std.proofs.Common.{◌∙◌, ◌≡◌, ◌≤◌, ◌+◌, ◌-◌, ap, arith, length, take, drop, None}
+use Rattle.std.proofs.lemmas.List.{length-take, length-drop}
+use Rattle.event_file.specs.Reader.{Reader}
+use Rattle.label_lattice.specs.Order.{Order}
+use Rattle.trapeze_cli.proofs.Refusals.{IfOk-map}
+use Rattle.trapeze_cli.proofs.Slices.{slice_played, slice_ended, last_played}
 use Rattle.trapeze_cli.proofs.play.play_bytes.Goals as goal
 
-pub new-reader-requires-clause-clients : goal.new-reader-requires-clause-clients
-new-reader-requires-clause-clients g c = numbered_clients c.args.policy.now _ c.clients.ensures.policy c.clients.ensures.clients
+pub slices-preserved : goal.slices-preserved
+slices-preserved g c =
+    let before = c.slices.invariant in
+    let none : c.in_ok-bad.field-0 ≡ None = c.in_default.is in
+    let rest = c.in_ok-bad.ensures.rest none in
+    let stays = c.in_ok-bad.ensures.stays in
+    let fed = c.in_ok-feed.ensures.ok in
+    let order : c.slices.fed ≤ c.min-end.result = omega (arith, c.min-end.ensures) in
+    let within : c.min-end.result ≤ length c.args.bytes.now = omega (arith, c.min-end.ensures) in
+    let slice = take (c.min-end.result - c.slices.fed) (drop c.slices.fed c.args.bytes.now) in
+    let size : c.slices.fed + length slice ≡ c.min-end.result =
+    omega (arith, length-take (c.min-end.result - c.slices.fed) (drop c.slices.fed c.args.bytes.now), length-drop c.slices.fed c.args.bytes.now) in
+    let count = ap (λ (r : Reader). r.fed) stays ∙ ap (λ (r : Reader). r.fed) fed in
+    record {
+      within = within;
+      good = rest.0;
+      feeding = ap (λ (r : Reader). r.finished) stays ∙ ap (λ (r : Reader). r.finished) fed ∙ before.feeding;
+      count = count ∙ ap (λ n. n + length slice) before.count ∙ size;
+      names = ap (λ (r : Reader). r.known.labels) stays ∙ ap (λ (r : Reader). r.known.labels) fed ∙ before.names;
+      part = rest.1;
+      limits = c.in_ok-bad.ensures.limits ∙ before.limits;
+      plays = slice_played _ _ _ _ _ _ _ _ _ _ c.slices.reader c.feed.new.self c.play_lines.new.reader _ _ _ c.in_ok-bad.field-0 order before.limits before.plays c.in_ok-feed.ensures.entries c.in_ok-bad.ensures.ok none;
+    }
 
-pub new-reader-requires-clause-functions : goal.new-reader-requires-clause-functions
-new-reader-requires-clause-functions g c = numbered_functions c.args.policy.now _ c.functions.ensures.policy c.functions.ensures.functions
+pub returns-in-Some-clause-ok : goal.returns-in-Some-clause-ok
+returns-in-Some-clause-ok g c =
+    let before = c.slices.invariant in
+    let named = ap (λ (order : Order). order.names) c.lattice-lattice.ensures.lattice in
+    let order : c.slices.fed ≤ c.min-end.result = omega (arith, c.min-end.ensures) in
+    slice_ended _ _ _ _ _ _ _ _ _ _ _ c.slices.reader c.feed.new.self c.play_lines.new.reader _ _ _ c.in_ok-bad.field-0 c.in-Some.bad order before.limits named before.plays c.in_ok-feed.ensures.entries c.in_ok-bad.ensures.ok c.in-Some.is
 
 pub returns-clause-ok : goal.returns-clause-ok
 returns-clause-ok g c =
-    let named = ap (λ order. order.names) c.lattice-lattice.ensures.lattice in
-    let labels = c.lattice-lattice.result.now.names in
-    let limits = g.T.Facets.limits c.args.store.now in
-    let before = g.T.Facets.rows c.args.store.now in
-    let entries = entries_of c.args.policy.now.lattice.names c.args.policy.now.clients c.args.policy.now.functions c.args.bytes.now in
-    let all = c.in_ok-feed.ensures.entries [] ∙ ap (λ r. entries_with r (c.args.bytes.now ++ [])) c.new-reader.ensures
-    ∙ fed_entries _ _ _ c.args.policy.now.lattice.names c.args.policy.now.clients c.args.policy.now.functions c.args.bytes.now named c.clients.ensures.clients c.functions.ensures.functions in
-    let first = subst (λ (here : Entries). Plays labels limits before (g.T.Facets.rows c.play_lines.new.store) c.args.told.now c.play_lines.new.told here (left_after c.in_ok-bad.field-0 c.play_lines.new.reader))
-    all c.in_ok-bad.ensures.ok in
-    subst (λ (names : List (List ℕ)). OnOk c.play_last.result (ArePlayed names limits (events_of entries.entries) before (g.T.Facets.rows c.play_last.new.store) c.args.told.now c.play_last.new.told)) named
-    (all_played _ _ _ _ _ _ _ _ _ _ _ c.in_ok-bad.field-0 c.play_last.result c.in_ok-bad.ensures.limits c.in-None.is first c.play_last.ensures.ok)
+    let before = c.slices.invariant in
+    let named = ap (λ (order : Order). order.names) c.lattice-lattice.ensures.lattice in
+    IfOk-map c.play_last.result (λ bad plays. last_played _ _ _ _ _ _ _ _ _ _ _ c.slices.reader _ c.slices.fed bad (omega (arith, c.slices-test.false)) before.limits named before.plays plays) c.play_last.ensures.ok

@@ -1,6 +1,6 @@
 use Rattle.std.proofs.Common.{◌∙◌, ap, [], ◌∷◌}
 use Rattle.event_file.specs.Script.{after}
-use Rattle.event_file.specs.Reading.{entries_with}
+use Rattle.event_file.specs.Reader.{entries_with}
 use Rattle.trapeze_cli.proofs.Playing.{Plays-one, used_entries}
 use Rattle.trapeze_cli.proofs.play.play_last.Goals as goal
 

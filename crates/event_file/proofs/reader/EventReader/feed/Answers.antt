@@ -1,7 +1,7 @@
 use Rattle.std.proofs.Common.{◌≡◌, ◌≤◌, ℕ, ◌++◌, List, length, drop, ap, ◌∙◌, arith, length-append}
 use Rattle.std.specs.List.{position_or_len}
 use Rattle.std.proofs.lemmas.List.{drop-append-le}
-use Rattle.event_file.specs.Reading.{Reading}
+use Rattle.event_file.specs.Reader.{Reader}
 use Rattle.event_file.proofs.Split.{farther}
 use Rattle.event_file.proofs.Go.{is_end}
 use Rattle.event_file.proofs.reader.EventReader.feed.Goals as goal
@@ -18,7 +18,7 @@ invariant_of-self c =
     let place = ap (position_or_len is_end) rest in
     let same : c.if-self-len.self ≡ c.args.self.now =
     elim c.if-self-len.branch [ then-self-len w ↦ w.self-is ∙ w.let_go.ensures | else-self-len w ↦ w.self-is ] in
-    let fed : r.fed ≡ c.args.self.now.fed = ap (λ (reading : Reading). reading.fed) (c.self-2.view_is ∙ same) in
+    let fed : r.fed ≡ c.args.self.now.fed = ap (λ (reader : Reader). reader.fed) (c.self-2.view_is ∙ same) in
     record {
       begins = omega (arith, longer, c.self-2.invariant.begins);
       no_end = omega (arith, place, farther is_end (drop r.start r.buffer.items) c.args.piece.now, c.self-2.invariant.no_end);

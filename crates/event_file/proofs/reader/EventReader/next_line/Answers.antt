@@ -1,5 +1,5 @@
 use Rattle.std.proofs.Common.{◌+◌, length, ap, ◌∙◌, arith, length-drop}
-use Rattle.event_file.specs.Reading.{Reading}
+use Rattle.event_file.specs.Reader.{Reader}
 use Rattle.event_file.specs.Calls.{Advances}
 use Rattle.event_file.specs.declared.next.Next.TheVariants as next
 use Rattle.event_file.specs.declared.fault.LineFault.TheVariants.{Word}
@@ -14,13 +14,13 @@ lines-preserved c =
     let same = c.line_end.ensures.same in
     let used = c.use_first.ensures in
     let says = rw c.in-Ok-None.field-0-is at c.in-Ok-None.ensures.said in
-    let kept = ap (λ (r : Reading). length r.kept) used in
-    let before = ap (λ (r : Reading). length r.kept) same in
+    let kept = ap (λ (r : Reader). length r.kept) used in
+    let before = ap (λ (r : Reader). length r.kept) same in
     record {
       skips =
           skips_more c.args.self.now mid c.use_first.new.self _ _ (skips_same _ _ mid same c.lines.invariant.skips)
           (first_same c.lines.self mid c.in-Some-line_end.len same c.in-Some-line_end.ensures.end.1) says used;
-      none = ap (λ (r : Reading). r.bad) used ∙ (ap (λ (r : Reading). r.bad) same ∙ c.lines.invariant.none);
+      none = ap (λ (r : Reader). r.bad) used ∙ (ap (λ (r : Reader). r.bad) same ∙ c.lines.invariant.none);
       shrinks = omega (arith, kept, before, length-drop (c.in-Some-line_end.len + 1) mid.kept, c.lines.invariant.shrinks);
     }
 
@@ -45,8 +45,8 @@ returns-in-Ok-Some-clause-entries c =
 pub returns-in-Ok-Some-clause-within : goal.returns-in-Ok-Some-clause-within
 returns-in-Ok-Some-clause-within c =
     let says = rw c.in-Ok-Some.field-0-is at c.in-Ok-Some.ensures.said in
-    within_same _ _ _ _ c.in-Ok-Some.entry c.use_first-in-Ok-Some.new.self
-    (ap (λ (r : Reading). r.labels) c.use_first-in-Ok-Some.ensures) says
+    within_same _ _ c.in-Ok-Some.entry c.use_first-in-Ok-Some.new.self
+    (ap (λ (r : Reader). r.known) c.use_first-in-Ok-Some.ensures) says
 
 faulty : (c : goal.After-stop) → Advances c.args.self.now c.stop.new.self c.stop.result
 faulty c =

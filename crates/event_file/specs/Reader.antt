@@ -1,6 +1,7 @@
 -- What contracts see of a reader of an event file.
 use Rattle.std.specs.Prelude.{◌≡◌, ℕ, ◌+◌, ◌^◌, ◌<◌, List, [], ◌∷◌, ◌++◌, length, Bool, Option, Result}
 use Rattle.trapeze_io.specs.Names.{Ascend}
+use Rattle.event_file.specs.Known.{Known}
 use Rattle.event_file.specs.Lines.{lines_of}
 use Rattle.event_file.specs.Script.{line_of, Entries, entries_from}
 use Rattle.event_file.specs.declared.entry.Entry.{Entry}
@@ -9,10 +10,8 @@ use Rattle.event_file.specs.declared.fault.LineError.{LineError}
 
 -- the names that lines may use, the bytes fed and not yet used, the numbers of lines used and of bytes fed, whether
 -- the feeding has ended, and the bad line that was answered
-pub record Reading : Type 0 where
-  pub labels : List (List ℕ)
-  pub clients : List (List ℕ)
-  pub functions : List (List ℕ)
+pub record Reader : Type 0 where
+  pub known : Known
   pub kept : List ℕ
   pub lines : ℕ
   pub fed : ℕ
@@ -20,13 +19,12 @@ pub record Reading : Type 0 where
   pub bad : Option LineError
 
 -- what a line says to a reader
-abbrev pub said_by : Reading → List ℕ → Result (Option Entry) LineFault
-said_by reading line = line_of reading.labels reading.clients reading.functions line
+abbrev pub said_by : Reader → List ℕ → Result (Option Entry) LineFault
+said_by reader line = line_of reader.known line
 
 -- the entries of the bytes kept and of more bytes after them, with the lines numbered on from those used
-abbrev pub entries_with : Reading → List ℕ → Entries
-entries_with reading more =
-    entries_from reading.labels reading.clients reading.functions (reading.lines + 1) (lines_of (reading.kept ++ more))
+abbrev pub entries_with : Reader → List ℕ → Entries
+entries_with reader more = entries_from reader.known (reader.lines + 1) (lines_of (reader.kept ++ more))
 
 -- the bytes are one line without an end
 abbrev pub IsOneLine : List ℕ → Type 0

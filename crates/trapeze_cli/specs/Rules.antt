@@ -9,7 +9,9 @@ use Rattle.event_file.specs.declared.entry.Event.{Event}
 use Rattle.event_file.specs.declared.entry.Event.TheVariants.{Put}
 use Rattle.event_file.specs.declared.entry.Entry.{Entry}
 use Rattle.event_file.specs.declared.entry.Entry.TheVariants.{One}
-use Rattle.trapeze_cli.specs.Lines.{Line, Full, Facet, visible}
+use Rattle.trapeze_lines.specs.declared.line.Line.{Line}
+use Rattle.trapeze_lines.specs.declared.line.Kind.TheVariants.{Full, Facet}
+use Rattle.trapeze_lines.specs.Lines.{line_at, visible}
 
 -- what the host keeps: the writes made so far
 pub record State : Type 0 where
@@ -38,7 +40,7 @@ write_of (Put label key value) = record { label = label.number; key = key; value
 
 -- the line of a write that does not fit
 abbrev pub full_line : Write → Line
-full_line write = record { label = write.label; kind = Full write.key }
+full_line write = line_at write.label (Full write.key)
 
 -- one event, under the limits of each label: a put whose write fits appends it; one whose write does not fit changes nothing and
 -- gives the line `full`
@@ -60,7 +62,7 @@ trace limits s (event ∷ events) = (step limits s event).lines ++ trace limits 
 
 -- the line of a live facet
 abbrev pub facet_line : Live → Line
-facet_line facet = record { label = facet.0.1; kind = Facet facet.0.0 facet.1 }
+facet_line facet = line_at facet.0.1 (Facet facet.0.0 facet.1)
 
 -- a line for each live facet, by key in byte order and then by label
 abbrev pub final : State → List Line

@@ -1,0 +1,100 @@
+-- A step after an accepted step is a step over the files of both.
+use Rattle.std.proofs.Common.{◌≡◌, ℕ, ◌≤◌, List, [], ◌∷◌, ◌++◌, Some, None, IfSome, Result, Ok, Err, refl, sym, ap, subst, ◌∙◌, append_assoc, arith}
+use Rattle.std.specs.declared.option.Option.{Option}
+use Rattle.trapeze_io.specs.Seen.{Seen, Held, OpensAll, OpensOne}
+use Rattle.trapeze_io.specs.Causes.{Rose}
+use Rattle.trapeze_io.proofs.Opens.{OpensAll-append, OpensAll-held, OpensAll-faults}
+use Rattle.trapeze_cli.specs.declared.status.Status.{Status}
+use Rattle.trapeze_cli.specs.Forms.{Source}
+use Rattle.trapeze_cli.specs.Whys.{Why, Played, Refused, ReadFailed, WriteFailed, OutOfMemory, why, names_of, FailsToRead, IsLast, OpensTo}
+use Rattle.trapeze_cli.specs.Steps.{IsRefused, Ends, Steps}
+
+-- the one file of a step was opened, and the step ended the call
+pub opens_one : (source : Source) (status : Status) (old new : Seen) → OpensAll (source.name ∷ []) old new → IsLast status source.input
+    → OpensTo (source ∷ []) status old new
+opens_one source status old new opens is = record {
+  before = [];
+  last = source;
+  after = [];
+  split = refl;
+  input = is;
+  opens = opens;
+}
+
+-- a read of the one file failed
+pub read_failed : (old new : Seen) (name : List ℕ) → OpensOne old name new → Rose new.mark new.faults → FailsToRead old new
+read_failed old new name one marked = record { rose = subst (λ (mark : ℕ). Rose mark new.faults) one.mark marked; marked = marked }
+
+names-append : (first second : List Source) → names_of (first ++ second) ≡ names_of first ++ names_of second
+names-append [] second = refl
+names-append (s ∷ first) second = ap (λ names. s.name ∷ names) (names-append first second)
+
+-- the files of the first step were opened, and then some of the second
+pub opens_later : (first second : List Source) (status : Status) (old mid new : Seen) → OpensAll (names_of first) old mid
+    → OpensTo second status mid new → OpensTo (first ++ second) status old new
+opens_later first second status old mid new p q =
+    let both = first ++ q.before in
+    let names : names_of first ++ names_of (q.before ++ q.last ∷ []) ≡ names_of (both ++ q.last ∷ []) =
+    sym (names-append first (q.before ++ q.last ∷ [])) ∙ ap names_of (sym (append_assoc first q.before (q.last ∷ []))) in
+    record {
+      before = both;
+      last = q.last;
+      after = q.after;
+      split = ap (λ rest. first ++ rest) q.split ∙ sym (append_assoc first q.before (q.last ∷ q.after));
+      input = q.input;
+      opens = subst (λ names. OpensAll names old new) names
+          (OpensAll-append (names_of first) (names_of (q.before ++ q.last ∷ [])) old mid new p q.opens);
+    }
+
+-- some files of the first step were opened, and none of the second
+pub opens_first : (first second : List Source) (status : Status) (old new : Seen) → OpensTo first status old new
+    → OpensTo (first ++ second) status old new
+opens_first first second status old new p = record {
+  before = p.before;
+  last = p.last;
+  after = p.after ++ second;
+  split = ap (λ sources. sources ++ second) p.split ∙ append_assoc p.before (p.last ∷ p.after) second;
+  input = p.input;
+  opens = p.opens;
+}
+
+-- what is told of the files after a step, from what is told before
+pub told_of : (P Q : Held → Type 0) (held mid : Option Held) → mid ≡ held → IfSome held (λ h. P h → Q h) → IfSome mid P → IfSome held Q
+told_of P Q None mid same k p = tt
+told_of P Q (Some h) mid same k p = k (subst (λ (o : Option Held). IfSome o P) same p)
+
+refused_by : {X Y : Type 0} (step : Held → Result X Status) (whole : Held → Result Y Status) (status : Status) (old mid new : Seen) (w : Why)
+    → mid.held ≡ old.held → old.faults ≤ mid.faults → IfSome old.held (λ h. step h ≡ Err status → whole h ≡ Err status)
+    → IsRefused step mid new status w → IsRefused whole old new status w
+refused_by step whole status old mid new Played same later k r = r
+refused_by step whole status old mid new Refused same later k r = told_of (λ h. step h ≡ Err status) (λ h. whole h ≡ Err status) old.held mid.held same k r
+refused_by step whole status old mid new (ReadFailed input) same later k r = record { rose = omega (arith, later, r.rose); marked = r.marked }
+refused_by step whole status old mid new WriteFailed same later k r = r
+refused_by step whole status old mid new OutOfMemory same later k r = tt
+
+-- a step ended the call after one that was accepted
+pub ends_later : {X Y : Type 0} (first second : List Source) (step : Held → Result X Status) (whole : Held → Result Y Status) (status : Status) (old mid new : Seen)
+    → OpensAll (names_of first) old mid → IfSome old.held (λ h. step h ≡ Err status → whole h ≡ Err status)
+    → Ends second step status mid new → Ends (first ++ second) whole status old new
+ends_later first second step whole status old mid new p k e = record {
+  opens = opens_later first second status old mid new p e.opens;
+  refused = refused_by step whole status old mid new (why status) (OpensAll-held (names_of first) old mid p) (OpensAll-faults (names_of first) old mid p) k e.refused;
+}
+
+-- a step ended the call before the next one
+pub ends_first : {X Y : Type 0} (first second : List Source) (step : Held → Result X Status) (whole : Held → Result Y Status) (status : Status) (old new : Seen)
+    → IfSome old.held (λ h. step h ≡ Err status → whole h ≡ Err status) → Ends first step status old new → Ends (first ++ second) whole status old new
+ends_first first second step whole status old new k e = record {
+  opens = opens_first first second status old new e.opens;
+  refused = refused_by step whole status old old new (why status) refl (omega arith) k e.refused;
+}
+
+-- a step after one that was accepted
+pub steps_later : {A X Y : Type 0} (first second : List Source) (step : Held → Result X Status) (whole : Held → Result Y Status) (old mid new : Seen) (result : Result A Status)
+    → OpensAll (names_of first) old mid → ((status : Status) → IfSome old.held (λ h. step h ≡ Err status → whole h ≡ Err status))
+    → Steps second step mid new result → Steps (first ++ second) whole old new result
+steps_later first second step whole old mid new (Ok x) p k s =
+    subst (λ names. OpensAll names old new) (sym (names-append first second))
+    (OpensAll-append (names_of first) (names_of second) old mid new p s)
+steps_later first second step whole old mid new (Err status) p k s =
+    ends_later first second step whole status old mid new p (k status) s
