@@ -94,36 +94,6 @@ fn an_absent_facet_hides_the_facets_before_it(rt: HostRuntime) -> Result<(), Fai
 }
 
 #[test]
-fn facets_come_by_key_and_then_by_label(rt: HostRuntime) -> Result<(), Fail> {
-    let (low, alice) = (Label::numbered(0), Label::numbered(1));
-    let mut store = FacetList::new(rt.alloc(), &[limits(10, 100); 4])?;
-    assert!(rt; store.next_facet(None).is_none());
-    assert_eq!(rt; store.write(alice, b"k", Some(b"\x02")), Ok(Wrote::Done));
-    assert_eq!(rt; store.write(low, b"k", Some(b"\x07")), Ok(Wrote::Done));
-    assert_eq!(rt; store.write(low, b"\xff", Some(b"\x05")), Ok(Wrote::Done));
-    assert_eq!(rt; store.write(low, b"k\x00", Some(b"")), Ok(Wrote::Done));
-    assert_eq!(rt; store.write(low, b"a", None), Ok(Wrote::Done));
-    assert_eq!(rt; store.write(alice, b"", Some(b"\x04")), Ok(Wrote::Done));
-    assert_eq!(rt; store.write(low, b"k", Some(b"\x01")), Ok(Wrote::Done));
-    let facets: [(&[u8], u8, Option<&[u8]>); 6] = [
-        (b"", 1, Some(b"\x04")),
-        (b"a", 0, None),
-        (b"k", 0, Some(b"\x01")),
-        (b"k", 1, Some(b"\x02")),
-        (b"k\x00", 0, Some(b"")),
-        (b"\xff", 0, Some(b"\x05")),
-    ];
-    let mut after = None;
-    for facet in facets {
-        let (key, label, value) = store.next_facet(after).expect(&rt, "a facet");
-        assert_eq!(rt; (key.as_slice(), label.number(), value), facet);
-        after = Some((key, label));
-    }
-    assert!(rt; store.next_facet(after).is_none());
-    Ok(())
-}
-
-#[test]
 fn a_label_is_full_by_the_number_of_its_facets(rt: HostRuntime) -> Result<(), Fail> {
     let low = Label::numbered(0);
     let mut store = FacetList::new(rt.alloc(), &[limits(2, 100)])?;
