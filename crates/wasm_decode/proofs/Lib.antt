@@ -5,3 +5,4 @@ pub mod Passing
 pub mod Numbered
 pub mod Answered
 pub mod Moving
+pub mod Few

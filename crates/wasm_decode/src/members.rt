@@ -1,6 +1,6 @@
 //! The members of sections, and vectors of them.
 
-ghost use Rattle.std.specs.Prelude.{◌≡◌, Ok};
+ghost use Rattle.std.specs.Prelude.{◌≡◌, ◌<◌, ◌^◌, length, IfOk, Ok};
 ghost use Rattle.wasm_code.specs.Answers.{place, Gives};
 ghost use Rattle.wasm_code.specs.Fields.{one_of, times, vector};
 ghost use Rattle.wasm_decode.specs.Parts as parts;
@@ -64,7 +64,8 @@ pub fn times<T: Member>(
 /// A vector: the count, and so many members.
 #[tactic(auto, unfolding(wasm_code::specs::Fields::vector))]
 pub fn vector<T: Member>(alloc: Global, input: Input) -> Result<(Vec<T>, Input), DecodeError>
-    ensures { Gives (λ x. (x.0.items, place x.1)) result (vector T.read (place input.entry)) }
+    ensures read { Gives (λ x. (x.0.items, place x.1)) result (vector T.read (place input.entry)) }
+    ensures few { IfOk result (λ x. length x.0.items < 2 ^ 32) }
 {
     let (count, after) = input.u32()?;
     times(alloc, count, after)

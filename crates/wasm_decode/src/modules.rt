@@ -2,6 +2,7 @@
 
 ghost use Rattle.std.specs.Prelude.{◌≡◌, ◌≤◌, ◌⊎◌, ℕ, List, length, IfOk, IfErr, Ok, Err};
 ghost use Rattle.wasm_ast.specs.declared.modules.Module.{Module};
+ghost use Rattle.wasm_ast.specs.Validity.{IsSmall};
 ghost use Rattle.wasm_code.specs.declared.error.DecodeError.{DecodeError};
 ghost use Rattle.wasm_code.specs.declared.error.DecodeError.TheVariants.{NoMemory};
 ghost use Rattle.wasm_code.specs.Answers.{place, Gives, OrNoMemory};
@@ -29,7 +30,8 @@ fn exactly<'a>(input: Input<'a>, front: &[u8]) -> Result<Input<'a>, DecodeError>
 /// The sections of a module, in their order, up to the end of the file.
 #[tactic(auto, unfolding(crate::specs::Sections::sections))]
 fn sections(alloc: Global, input: Input) -> Result<Module, DecodeError>
-    ensures { Gives (λ x. x) result (reading.sections (place input.entry)) }
+    ensures read { Gives (λ x. x) result (reading.sections (place input.entry)) }
+    ensures small { IfOk result IsSmall }
 {
     let (types, input) = vector_section(alloc, 1, input)?;
     let (imports, input) = vector_section(alloc, 2, input)?;
@@ -56,7 +58,8 @@ fn sections(alloc: Global, input: Input) -> Result<Module, DecodeError>
 /// The header, and the sections behind it.
 fn file(alloc: Global, bytes: &[u8]) -> Result<Module, DecodeError>
     requires { length bytes.now ≤ 4194304 }
-    ensures { Gives (λ x. x) result (reading.module_of bytes.now) }
+    ensures read { Gives (λ x. x) result (reading.module_of bytes.now) }
+    ensures small { IfOk result IsSmall }
 {
     let input = Input { rest: bytes, at: 0 };
     let input = exactly(input, &[0x00, 0x61, 0x73, 0x6d])?;
@@ -72,6 +75,7 @@ fn file(alloc: Global, bytes: &[u8]) -> Result<Module, DecodeError>
 pub fn decode(alloc: Global, bytes: &[u8]) -> Result<Module, DecodeError>
     requires { length bytes.now ≤ 4194304 }
     ensures found { IfOk result (λ m. Spells m bytes.now) }
+    ensures small { IfOk result IsSmall }
     ensures only { (m : Module) → Spells m bytes.now → OrNoMemory result (Ok m) }
     ensures fault { IfErr result (λ e. (e ≡ NoMemory) ⊎ Fails bytes.now e) }
     ensures first { (e : DecodeError) → Fails bytes.now e → OrNoMemory result (Err e) }

@@ -1,7 +1,7 @@
 //! Sections, each behind custom ones.
 
 ghost use Rattle.std.specs.Option.{option_map};
-ghost use Rattle.std.specs.Prelude.{◌≡◌, [], None, Ok};
+ghost use Rattle.std.specs.Prelude.{◌≡◌, ◌<◌, ◌^◌, [], length, IfOk, None, Ok};
 ghost use Rattle.wasm_code.specs.Answers.{place, Gives};
 ghost use Rattle.wasm_code.specs.Fields.{u32, vector};
 ghost use Rattle.wasm_decode.specs.Parts as parts;
@@ -49,7 +49,8 @@ pub fn vector_section<T: Member>(
     id: u8,
     input: Input,
 ) -> Result<(Vec<T>, Input), DecodeError>
-    ensures { Gives (λ x. (x.0.items, place x.1)) result (sections.section id (vector T.read) [] (place input.entry)) }
+    ensures read { Gives (λ x. (x.0.items, place x.1)) result (sections.section id (vector T.read) [] (place input.entry)) }
+    ensures few { IfOk result (λ x. length x.0.items < 2 ^ 32) }
 {
     let input = customs(input)?;
     let Some(section) = after_id(id, input) else {
@@ -94,7 +95,8 @@ fn bodies(alloc: Global, count: u32, input: Input) -> Result<(Vec<Body>, Input),
 /// The bodies of so many functions: the contents of the code section.
 #[tactic(auto, unfolding(crate::specs::Parts::code))]
 fn code(alloc: Global, functions: usize, input: Input) -> Result<(Vec<Body>, Input), DecodeError>
-    ensures { Gives (λ x. (x.0.items, place x.1)) result (parts.code functions (place input.entry)) }
+    ensures read { Gives (λ x. (x.0.items, place x.1)) result (parts.code functions (place input.entry)) }
+    ensures few { IfOk result (λ x. length x.0.items < 2 ^ 32) }
 {
     let (count, after) = input.u32()?;
     if count as usize != functions {
@@ -110,7 +112,8 @@ pub fn code_section(
     functions: usize,
     input: Input,
 ) -> Result<(Vec<Body>, Input), DecodeError>
-    ensures { Gives (λ x. (x.0.items, place x.1)) result (sections.section 10 (parts.code functions) [] (place input.entry)) }
+    ensures read { Gives (λ x. (x.0.items, place x.1)) result (sections.section 10 (parts.code functions) [] (place input.entry)) }
+    ensures few { IfOk result (λ x. length x.0.items < 2 ^ 32) }
 {
     let input = customs(input)?;
     let Some(section) = after_id(10, input) else {
@@ -139,7 +142,8 @@ fn pieces(
     counted: Option<u32>,
     input: Input,
 ) -> Result<(Vec<Piece>, Input), DecodeError>
-    ensures { Gives (λ x. (x.0.items, place x.1)) result (parts.pieces counted (place input.entry)) }
+    ensures read { Gives (λ x. (x.0.items, place x.1)) result (parts.pieces counted (place input.entry)) }
+    ensures few { IfOk result (λ x. length x.0.items < 2 ^ 32) }
 {
     let (count, after) = input.u32()?;
     if !is_counted(counted, count as usize) {
@@ -155,7 +159,8 @@ pub fn data_section(
     counted: Option<u32>,
     input: Input,
 ) -> Result<(Vec<Piece>, Input), DecodeError>
-    ensures { Gives (λ x. (x.0.items, place x.1)) result (sections.section 11 (parts.pieces counted) [] (place input.entry)) }
+    ensures read { Gives (λ x. (x.0.items, place x.1)) result (sections.section 11 (parts.pieces counted) [] (place input.entry)) }
+    ensures few { IfOk result (λ x. length x.0.items < 2 ^ 32) }
 {
     let input = customs(input)?;
     let Some(section) = after_id(11, input) else {

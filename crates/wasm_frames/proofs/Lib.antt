@@ -1,8 +1,10 @@
 pub mod Calling
 pub mod Counts
+pub mod Ends
 pub mod Fewer
 pub mod Lifts
 pub mod Resting
+pub mod TestFrames
 pub mod Through
+pub mod TwoFunctions
 pub mod TypeLemmas
-pub mod Ends

@@ -50,7 +50,8 @@ pub record AreCallees (m : Module) (rows : List Callee) : Type 0 where
 -- the innermost level has the arguments of a call
 abbrev pub HasArguments : List Callee → ℕ → Active → List ℕ → List Open → Type 0
 HasArguments rows x a values opens =
-    (c : Callee) → slice_get rows x ≡ Some c → c.params ≤ length (values_in (above a.hot.low opens) (operands_in a.hot.marks.floor a.hot.marks.sp values))
+    let operands = operands_in a.hot.marks.floor a.hot.marks.sp values in
+    (c : Callee) → slice_get rows x ≡ Some c → c.params ≤ length (values_in (above a.hot.low opens) operands)
 
 -- an entry of the table that is set is a function, and the arguments are there where it has the type that is wanted
 abbrev pub AreTypes : Module → List Callee → ℕ → List (Option ℕ) → ℕ → Active → List ℕ → List Open → Type 0

@@ -2,3 +2,4 @@ pub mod Callees
 pub mod Resting
 pub mod Standing
 pub mod Turns
+pub mod Tested

@@ -16,7 +16,9 @@ use Rattle.wasm_frames.specs.Standing.{Held, thread_in, IsStanding, IsPlaced}
 
 -- the innermost level has what a return keeps
 abbrev pub CanReturn : Active → List ℕ → List Open → Type 0
-CanReturn a values opens = truth a.gives ≤ length (values_in (above a.hot.low opens) (operands_in a.hot.marks.floor a.hot.marks.sp values))
+CanReturn a values opens =
+    let operands = operands_in a.hot.marks.floor a.hot.marks.sp values in
+    truth a.gives ≤ length (values_in (above a.hot.low opens) operands)
 
 -- the innermost level has what a branch to this label keeps, and the label is that of a block or of the function
 pub record CanBranch (a : Active) (label : ℕ) (values : List ℕ) (opens : List Open) : Type 0 where

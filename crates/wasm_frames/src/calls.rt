@@ -62,7 +62,8 @@ pub fn call<'m>(
         let before = held places.old codes.old values.old opens.now nexts.now in
         let after = held places.new codes.new values.new opens.now nexts.now in
         let p = spot_at program.now store active.entry before in
-        IsPlaced program.now active.entry before → Answered program.now (called program.now index p p.level.values) store store before after result }
+        let outcome = called program.now index p p.level.values in
+        IsPlaced program.now active.entry before → Answered program.now outcome store store before after result }
 {
     let callee = callees[index];
     let marks = active.hot.marks;
@@ -138,7 +139,8 @@ pub fn call_through<'m>(
         let p = spot_at program.now store active.entry before in
         IsPlaced program.now active.entry before →
         (wanted : Signature) → slice_get program.now.types kind ≡ Some wanted →
-        Answered program.now (called_through program.now wanted p p.level.values (slice_get table.now at)) store store before after result }
+        let outcome = called_through program.now wanted p p.level.values (slice_get table.now at) in
+        Answered program.now outcome store store before after result }
 {
     let Some(entry) = entry_at(table, at) else {
         return Turn::Trapped(Trap::Table);

@@ -8,6 +8,7 @@ mod modules;
 mod names;
 mod structure;
 
+pub use hosts::host_call;
 pub use invalid::Invalid;
 pub use modules::{ValidModule, validate};
 

@@ -1,9 +1,9 @@
 //! The tests of a module, in their order.
 
-ghost use Rattle.std.specs.Prelude.{◌≡◌, ◌<◌, ◌+◌, ◌^◌, ℕ, None, length, OnOk, IfOk, IfErr, MatchResult};
+ghost use Rattle.std.specs.Prelude.{◌≡◌, ◌<◌, ◌+◌, ◌^◌, ℕ, Some, None, length, OnOk, IfOk, IfErr, MatchResult};
 ghost use Rattle.wasm_ast.specs.declared.modules.Module.{Module};
 ghost use Rattle.wasm_ast.specs.Faults.{Fault};
-ghost use Rattle.wasm_ast.specs.Validity.{early_fault, Invalidity, IsBodyTyped, IsSmall, Valid};
+ghost use Rattle.wasm_ast.specs.Validity.{early_fault, handle_of, Invalidity, IsBodyTyped, IsSmall, Valid};
 ghost use Rattle.wasm_ast.specs.Hosts.{host_of};
 ghost use Rattle.wasm_validate.specs.Invalids.{IsRefused, Tells};
 
@@ -102,6 +102,16 @@ impl ValidModule {
         let imports = self.module.imports();
         match host_call(imports[import as usize].name().as_slice()) {
             Some(name) => name,
+            None => unreachable!(),
+        }
+    }
+
+    /// The function that a turn runs.
+    pub fn handle(&self) -> u32
+        ensures { handle_of self.now ≡ Some result }
+    {
+        match entry_point(&self.module) {
+            Some(index) => index,
             None => unreachable!(),
         }
     }

@@ -223,6 +223,7 @@ fn accepts_the_built_module(rt: HostRuntime) -> Result<(), Fail> {
             assert!(rt; valid.module().imports().len() == 2);
             assert_eq!(rt; valid.host(0), HostName::Input);
             assert_eq!(rt; valid.host(1), HostName::Reply);
+            assert_eq!(rt; valid.handle(), 2);
         }
         Err((_module, invalid)) => assert_eq!(rt; Some(invalid), None),
     }

@@ -1,0 +1,11 @@
+use Rattle.std.proofs.Common.{◌≤◌, sym, ap, ◌∙◌, arith}
+use Rattle.wasm_ast.specs.Spaces.{first_pages}
+use Rattle.sandbox.specs.Threads.{thread_of, IsReady}
+use Rattle.sandbox.proofs.sandboxes.Sandbox.fresh.Goals as goal
+
+pub returns : goal.returns
+unfolding thread_of IsReady
+returns c =
+    let pages = c.least_pages.ensures ∙ ap first_pages c.module.ensures.same in
+    let b = c.in_ok-machine.ensures in
+    (omega (arith, pages, c.if-least_pages-pages.false), b.0, b.1)

@@ -1,0 +1,10 @@
+pub mod Courses
+pub mod Entries
+pub mod Finds
+pub mod Machines
+pub mod Measures
+pub mod Rests
+pub mod Rows
+pub mod Segments
+pub mod Wakes
+pub mod Words

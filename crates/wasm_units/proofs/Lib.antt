@@ -1,0 +1,10 @@
+pub mod DataKinds
+pub mod Datas
+pub mod Fronts
+pub mod Moving
+pub mod Needs
+pub mod Opening
+pub mod Popped
+pub mod Spinning
+pub mod Steps
+pub mod Takes
