@@ -5,7 +5,7 @@ use Rattle.event_file.specs.Reader.{Reader, said_by}
 use Rattle.event_file.specs.Calls.{SayNothing, Skips, Advances, IsDue, first_said, or_later}
 use Rattle.event_file.specs.declared.entry.Entry.{Entry}
 use Rattle.event_file.specs.declared.fault.LineFault.{LineFault}
-use Rattle.event_file.specs.declared.fault.LineFault.TheVariants.{Word}
+use Rattle.event_file.specs.declared.fault.LineFault.TheVariants.{LineTooLong}
 use Rattle.event_file.specs.declared.next.Next.{Next}
 use Rattle.event_file.specs.declared.next.Next.TheVariants as next
 use Rattle.event_file.proofs.Split.{some_part}
@@ -44,9 +44,9 @@ speaks r line (next ∷ lines) said l h =
     ap (λ (said : Result (Option Entry) LineFault). or_later said (first_said r (next ∷ lines))) h
 
 abbrev long_fault : Result Entry LineFault
-long_fault = Err Word
+long_fault = Err LineTooLong
 
-long_by : (b : Bool) (fault : LineFault) → b ≡ true → fault ≡ Word → cond b (Some long_fault) None ≡ Some (Err fault)
+long_by : (b : Bool) (fault : LineFault) → b ≡ true → fault ≡ LineTooLong → cond b (Some long_fault) None ≡ Some (Err fault)
 long_by true fault h e = ap (λ (f : LineFault). Some (Err f)) (sym e)
 long_by false fault h e = absurd (cc)
 
@@ -56,7 +56,7 @@ stops_by : (r : Reader) (line : List ℕ) (below : List (List ℕ)) (fault : Lin
 stops_by r line [] fault (inl whole) h = absurd (whole refl)
 stops_by r line [] fault (inr long) h =
     let now = long_line r.known line long in
-    let e : fault ≡ Word = cc in
+    let e : fault ≡ LineTooLong = cc in
     long_by (is_too_long line) fault long e
 stops_by r line (next ∷ below) fault ready h = speaks r line (next ∷ below) (Err fault) (omega arith) h
 

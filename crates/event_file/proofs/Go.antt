@@ -27,7 +27,7 @@ lines-append firsts bytes rest more h =
     ∙ ap (λ (parts : List (List ℕ)). firsts ++ parts) (sym (slice_split-append is_end rest more))))
 
 -- lines that say nothing give no entry
-skipped_lines : (r : Reader) (skipped lines : List (List ℕ)) (number : ℕ) → SayNothing r skipped
+pub skipped_lines : (r : Reader) (skipped lines : List (List ℕ)) (number : ℕ) → SayNothing r skipped
     → entries_from r.known number (skipped ++ lines)
     ≡ entries_from r.known (number + length skipped) lines
 skipped_lines r [] lines number h =
@@ -62,7 +62,7 @@ numbered : (bad : LineError) (number : ℕ) → bad.line ≡ number
 numbered bad number e =
     ap (λ (n : ℕ). onto n (Err bad.fault) (record { entries = []; bad = None })) (sym e)
 
-longer_by : (line more : List ℕ) → is_too_long line ≡ true → is_too_long (line ++ more) ≡ true
+pub longer_by : (line more : List ℕ) → is_too_long line ≡ true → is_too_long (line ++ more) ≡ true
 longer_by line more h =
     let l : longest_line < length line = ltb-true longest_line (length line) h in
     lt-ltb longest_line (length (line ++ more)) (omega (arith, length-append line more))
@@ -93,7 +93,7 @@ stops_with old new bad more s =
     ∙ ready_by old s.line s.below (lines_of more) bad s.ready.ready s.faulty (old.lines + 1) s.number
 
 -- the answer continues the entries
-pub continues : (old new : Reader) (answer : Next) (more : List ℕ) → Advances old new answer → Continues old new answer more
+pub continues : (old new : Reader) (answer : Next) (more : List ℕ) → Advances old new answer → Continues entries_with old new answer more
 continues old new (next.Entry entry) more a = skips_with old a.between more a.skips ∙ uses_with a.between new entry more a.goes
 continues old new (next.Bad bad) more a = skips_with old a.between more a.skips ∙ stops_with a.between new bad more a.goes
 continues old new next.NoLine more a =

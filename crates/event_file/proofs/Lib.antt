@@ -1,6 +1,8 @@
 pub mod Split
 pub mod Within
 pub mod Go
+pub mod Hearing
 pub mod Steps
 pub mod Due
 pub mod Callers
+pub mod Counts

@@ -1,19 +1,10 @@
 -- Where a list is split, and how the parts of joined lists join.
-use Rattle.std.proofs.Common.{◌≡◌, ℕ, zero, suc, ◌+◌, ◌-◌, ◌<◌, ◌≤◌, Bool, true, false, cond, not, ltb, List, [], ◌∷◌, ◌++◌, length, take, drop, Some, None, refl, sym, ap, ◌∙◌, arith, length-drop}
-use Rattle.std.proofs.lemmas.List.{take_all, drop-drop}
+use Rattle.std.proofs.Common.{◌≡◌, ℕ, zero, suc, ◌+◌, ◌-◌, ◌<◌, ◌≤◌, Bool, true, false, cond, not, List, [], ◌∷◌, ◌++◌, length, take, drop, Some, None, refl, sym, ap, ◌∙◌, arith, length-drop}
+use Rattle.std.proofs.lemmas.List.{drop-drop}
 use Rattle.std.specs.Prelude.{position}
 use Rattle.std.specs.List.{slice_split, onto_first, position_or_len}
-use Rattle.std.proofs.lemmas.List.Splits.{slice_split_first, slice_split-cons_no, length-slice_split}
-use borrow.Author.Tests.{ltb-true, ltb-false}
-
--- what a position that was found, or not found, says
-found_test : (b : Bool) (k n : ℕ) → cond b (Some k) None ≡ Some n → (b ≡ true) × (k ≡ n)
-found_test true k n h = (refl, cc)
-found_test false k n h = absurd (cc)
-
-missing_test : (b : Bool) (k : ℕ) → cond b (Some k) None ≡ None → b ≡ false
-missing_test true k h = absurd (cc)
-missing_test false k h = refl
+use Rattle.std.proofs.lemmas.List.Splits.{length-slice_split}
+use Rattle.trapeze_io.proofs.Splits.{found, missing, from_place}
 
 -- the parts of a list, with the last of them joined to the first of some others
 abbrev pub splice : List (List ℕ) → List (List ℕ) → List (List ℕ)
@@ -21,18 +12,6 @@ splice [] others = others
 splice (part ∷ []) [] = part ∷ []
 splice (part ∷ []) (other ∷ others) = (part ++ other) ∷ others
 splice (part ∷ next ∷ parts) others = part ∷ splice (next ∷ parts) others
-
-module _ {X : Type 0} (p : X → Bool) where
-  pub found : (xs : List X) (n : ℕ) → position p xs ≡ Some n → (n < length xs) × (position_or_len p xs ≡ n)
-  found xs n h =
-      let t = found_test (ltb (position_or_len p xs) (length xs)) (position_or_len p xs) n h in
-      let l : position_or_len p xs < length xs = ltb-true (position_or_len p xs) (length xs) t.0 in
-      (omega (arith, t.1), t.1)
-
-  pub missing : (xs : List X) → position p xs ≡ None → length xs ≤ position_or_len p xs
-  missing xs h =
-      let t = missing_test (ltb (position_or_len p xs) (length xs)) (position_or_len p xs) h in
-      ltb-false (position_or_len p xs) (length xs) t
 
 module _ (p : ℕ → Bool) where
   -- the first place of what is left after a front in which no element passes
@@ -49,38 +28,6 @@ module _ (p : ℕ → Bool) where
       let ih = later xs n b.0 in
       omega (arith, b.1, ih)
 
-  -- a list in which no element passes is the one part
-  whole_by : (b : Bool) (x : ℕ) (xs : List ℕ) → suc (length xs) ≤ cond (not b) (1 + position_or_len p xs) 0
-      → (b ≡ false) × (length xs ≤ position_or_len p xs)
-  whole_by true x xs h = absurd (omega arith)
-  whole_by false x xs h = (refl, omega arith)
-
-  pub whole : (xs : List ℕ) → length xs ≤ position_or_len p xs → slice_split p xs ≡ xs ∷ []
-  whole [] h = refl
-  whole (x ∷ xs) h =
-      let b = whole_by (p x) x xs h in
-      slice_split-cons_no p x xs b.0 ∙ ap (onto_first x) (whole xs b.1)
-
-  -- the parts of a list of which the first place that passes is known
-  pub first_part : (xs : List ℕ) (n : ℕ) → n < length xs → position_or_len p xs ≡ n
-      → slice_split p xs ≡ take n xs ∷ slice_split p (drop (n + 1) xs)
-  first_part xs n l h =
-      slice_split_first p xs 0 (omega arith)
-      ∙ ap (λ (k : ℕ). take k xs ∷ slice_split p (drop (k + 1) xs)) h
-
-  -- a slice from a place on is what follows the place
-  from_place : (xs : List ℕ) (n : ℕ) → take (length xs - n) (drop n xs) ≡ drop n xs
-  from_place xs n =
-      let short : length (drop n xs) ≤ length xs - n = omega (arith, length-drop n xs) in
-      take_all (length xs - n) (drop n xs) short
-
-  -- the same, for a slice from there on
-  pub first_part_of : (xs : List ℕ) (n : ℕ) → position p xs ≡ Some n
-      → slice_split p xs ≡ take n xs ∷ slice_split p (take (length xs - (n + 1)) (drop (n + 1) xs))
-  first_part_of xs n h =
-      let f = found p xs n h in
-      rw (from_place xs (n + 1)) (first_part xs n f.0 f.1)
-
   -- the first place that passes, searched for from a later place on
   pub found_next : (xs slice : List ℕ) (start searched at : ℕ) → slice ≡ xs → searched ≤ position_or_len p (drop start xs)
       → position p (take (length slice - (start + searched)) (drop (start + searched) slice)) ≡ Some at
@@ -88,7 +35,7 @@ module _ (p : ℕ → Bool) where
   found_next xs slice start searched at same_list l h =
       let there : position p (drop (start + searched) xs) ≡ Some at =
       ap (λ (list : List ℕ). position p (drop (start + searched) list)) (sym same_list)
-      ∙ (ap (position p) (sym (from_place slice (start + searched))) ∙ h) in
+      ∙ (ap (position p) (sym (from_place p slice (start + searched))) ∙ h) in
       let f = found p (drop (start + searched) xs) at there in
       let e = later (drop start xs) searched l in
       let d : drop searched (drop start xs) ≡ drop (start + searched) xs = drop-drop searched start xs in
@@ -101,7 +48,7 @@ module _ (p : ℕ → Bool) where
   missing_next xs slice start searched same_list l h =
       let there : position p (drop (start + searched) xs) ≡ None =
       ap (λ (list : List ℕ). position p (drop (start + searched) list)) (sym same_list)
-      ∙ (ap (position p) (sym (from_place slice (start + searched))) ∙ h) in
+      ∙ (ap (position p) (sym (from_place p slice (start + searched))) ∙ h) in
       let m = missing p (drop (start + searched) xs) there in
       let e = later (drop start xs) searched l in
       let d : drop searched (drop start xs) ≡ drop (start + searched) xs = drop-drop searched start xs in

@@ -8,7 +8,7 @@ use Rattle.event_file.specs.Reader.{Reader, said_by, IsOneLine}
 use Rattle.event_file.specs.Calls.{SayNothing, Skips, Uses, Stops, IsShort, Advances, bad_after}
 use Rattle.event_file.specs.declared.entry.Entry.{Entry}
 use Rattle.event_file.specs.declared.fault.LineFault.{LineFault}
-use Rattle.event_file.specs.declared.fault.LineFault.TheVariants.{Word}
+use Rattle.event_file.specs.declared.fault.LineFault.TheVariants.{LineTooLong}
 use Rattle.event_file.specs.declared.fault.LineError.{LineError}
 use Rattle.event_file.specs.declared.next.Next.{Next}
 use Rattle.event_file.specs.declared.next.Next.TheVariants as next
@@ -98,7 +98,7 @@ advances_bad old mid new line rest fault s f says same = record {
 }
 
 pub advances_long : (old mid new : Reader) → Skips old mid → IsOneLine mid.kept → longest_line < length mid.kept
-    → new ≡ record mid { bad = Some (at_first mid Word) } → Advances old new (next.Bad (at_first mid Word))
+    → new ≡ record mid { bad = Some (at_first mid LineTooLong) } → Advances old new (next.Bad (at_first mid LineTooLong))
 advances_long old mid new s one long same =
     let test = lt-ltb longest_line (length mid.kept) long in
     record {

@@ -2,8 +2,8 @@
 use Rattle.std.specs.Prelude.{Option, None, Some, Result}
 use Rattle.trapeze_io.specs.Answers.{Answers}
 use Rattle.event_file.specs.declared.fault.LineFault.{LineFault}
-use Rattle.event_file.specs.declared.line.Unread.{Unread}
-use Rattle.event_file.specs.declared.line.Unread.TheVariants.{Fault, NoMemory}
+use Rattle.event_file.specs.declared.words.Unread.{Unread}
+use Rattle.event_file.specs.declared.words.Unread.TheVariants.{Fault, NoMemory}
 
 -- the fault for which a line could not be read, and none where it was out of memory
 abbrev pub fault_of : Unread → Option LineFault

@@ -1,12 +1,12 @@
 -- What the calls of a reader of an event file do.
 use Rattle.std.specs.Prelude.{◌≡◌, ◌≢◌, ℕ, ◌+◌, ◌<◌, ◌==◌, ◌⊎◌, ⊤, List, [], ◌∷◌, ◌++◌, length, true, false, if◌then◌else◌, Option, None, Some, Result, Ok, Err}
 use Rattle.event_file.specs.Lines.{lines_of, is_too_long}
-use Rattle.event_file.specs.Script.{after, IsWithin}
+use Rattle.event_file.specs.Script.{Entries, after, IsWithin}
 use Rattle.event_file.specs.Reader.{Reader, said_by, entries_with, IsOneLine}
 use Rattle.event_file.specs.declared.entry.Entry.{Entry}
 use Rattle.event_file.specs.declared.fault.LineError.{LineError}
 use Rattle.event_file.specs.declared.fault.LineFault.{LineFault}
-use Rattle.event_file.specs.declared.fault.LineFault.TheVariants.{Word}
+use Rattle.event_file.specs.declared.fault.LineFault.TheVariants.{LineTooLong}
 use Rattle.event_file.specs.declared.next.Next.{Next}
 use Rattle.event_file.specs.declared.next.Next.TheVariants as next
 
@@ -85,7 +85,7 @@ or_later (Err fault) later = Some (Err fault)
 -- what the first of the lines held that says something says: a whole one, or the last one as soon as it is too long
 abbrev pub first_said : Reader → List (List ℕ) → Option (Result Entry LineFault)
 first_said reader [] = None
-first_said reader (line ∷ []) = if is_too_long line then Some (Err Word) else None
+first_said reader (line ∷ []) = if is_too_long line then Some (Err LineTooLong) else None
 first_said reader (line ∷ next ∷ lines) = or_later (said_by reader line) (first_said reader (next ∷ lines))
 
 -- the answer of `next_line` is what the lines held say first, and only being out of memory keeps an entry back
@@ -102,12 +102,12 @@ Leaves old new (next.Bad bad) = ⊤
 Leaves old new next.NoLine = IsShort new
 Leaves old new next.NoMemory = ⊤
 
--- how the answer continues the entries, whatever bytes are fed after those kept
-abbrev pub Continues : Reader → Reader → Next → List ℕ → Type 0
-Continues old new (next.Entry entry) more = entries_with old more ≡ after (entry ∷ []) (entries_with new more)
-Continues old new (next.Bad bad) more = entries_with old more ≡ record { entries = []; bad = Some bad }
-Continues old new next.NoLine more = entries_with old more ≡ entries_with new more
-Continues old new next.NoMemory more = entries_with old more ≡ entries_with new more
+-- how the answer continues the entries that are read or heard, whatever bytes are fed after those kept
+abbrev pub Continues : (Reader → List ℕ → Entries) → Reader → Reader → Next → List ℕ → Type 0
+Continues entries old new (next.Entry entry) more = entries old more ≡ after (entry ∷ []) (entries new more)
+Continues entries old new (next.Bad bad) more = entries old more ≡ record { entries = []; bad = Some bad }
+Continues entries old new next.NoLine more = entries old more ≡ entries new more
+Continues entries old new next.NoMemory more = entries old more ≡ entries new more
 
 -- the last line, which has no end, is used and counted if it has a byte
 abbrev pub used_up : Reader → Reader

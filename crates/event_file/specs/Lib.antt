@@ -1,9 +1,9 @@
 pub mod Known
 pub mod Lines
-pub mod Puts
+pub mod Spelling
 pub mod Script
 pub mod Reader
+pub mod Heard
 pub mod Calls
 pub mod Agrees
-pub mod Left
 pub mod Kept

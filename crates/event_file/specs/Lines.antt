@@ -1,14 +1,10 @@
--- The lines of an event file and the words of a line.
+-- The lines of an event file.
 use Rattle.std.specs.Prelude.{ℕ, List, [], ◌∷◌, length, Bool, true, ◌==◌, nat_lt}
 use Rattle.std.specs.List.{slice_split}
 
 -- the lines: the parts before, between and after the line feeds, so the last one is the one that has no end there
 abbrev pub lines_of : List ℕ → List (List ℕ)
 lines_of bytes = slice_split (λ byte. byte == 10) bytes
-
--- the words of a line: the parts before, between and after its spaces, so two spaces side by side make an empty word
-abbrev pub words_of : List ℕ → List (List ℕ)
-words_of line = slice_split (λ byte. byte == 32) line
 
 -- the most bytes that a line may have, its end not counted
 abbrev pub longest_line : ℕ

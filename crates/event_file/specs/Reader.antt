@@ -1,6 +1,5 @@
 -- What contracts see of a reader of an event file.
-use Rattle.std.specs.Prelude.{◌≡◌, ℕ, ◌+◌, ◌^◌, ◌<◌, List, [], ◌∷◌, ◌++◌, length, Bool, Option, Result}
-use Rattle.trapeze_io.specs.Names.{Ascend}
+use Rattle.std.specs.Prelude.{◌≡◌, ℕ, ◌+◌, List, [], ◌∷◌, ◌++◌, Bool, Option, Result}
 use Rattle.event_file.specs.Known.{Known}
 use Rattle.event_file.specs.Lines.{lines_of}
 use Rattle.event_file.specs.Script.{line_of, Entries, entries_from}
@@ -29,8 +28,3 @@ entries_with reader more = entries_from reader.known (reader.lines + 1) (lines_o
 -- the bytes are one line without an end
 abbrev pub IsOneLine : List ℕ → Type 0
 IsOneLine bytes = lines_of bytes ≡ bytes ∷ []
-
--- names in byte order without repeats, that 32 bits can count
-pub record IsNumbered (names : List (List ℕ)) : Type 0 where
-  pub ascending : Ascend names
-  pub few : length names < 2 ^ 32

@@ -3,52 +3,30 @@
 ghost use Rattle.std.specs.Prelude.{◌≡◌, None, Ok};
 ghost use Rattle.event_file.specs.Lines.{is_remark};
 ghost use Rattle.event_file.specs.Agrees.{Agrees};
-ghost use Rattle.event_file.specs.Puts.{bytes_of, label_of, put_of, value_of};
-ghost use Rattle.event_file.specs.Script.{entry_of, line_of};
+ghost use Rattle.event_file.specs.Known.{IsNumbered};
+ghost use Rattle.event_file.specs.Script.{ask_of, entry_of, line_of, put_of, turn_of};
 
 use crate::entry::{Entry, Event};
 use crate::fault::LineFault;
-use crate::words::Words;
-use hex::FromHexError;
-use label_lattice::{Label, Lattice};
+use crate::words::{
+    Known, Unread, read_bytes, read_client, read_count, read_function, read_id, read_label,
+    read_value,
+};
 use std::alloc::Global;
-use std::marker::Model;
-use trapeze_io::{Bytes, LONGEST_KEY, LONGEST_VALUE, Name};
+use trapeze_io::{LONGEST_KEY, LONGEST_VALUE, Words};
 
 /// The most bytes that a line may have, its end not counted.
 pub(crate) const LONGEST_LINE: usize = 140_000;
 
-/// Why a line could not be read.
-#[derive(Clone, Copy, Drop)]
-pub(crate) enum Unread {
-    Fault(LineFault),
-    NoMemory,
-}
-
-/// The names that lines may use.
-#[derive(Drop)]
-pub(crate) struct Known<'a> {
-    pub(crate) lattice: &'a Lattice,
-    pub(crate) clients: &'a [Name],
-    pub(crate) functions: &'a [Name],
-}
-
-impl<'a> Model for Known<'a> {
-    ghost use Rattle.event_file.specs.Known.{Known};
-
-    ghost Value = { Known };
-
-    ghost view = { λ known. record { labels = known.lattice.now.names; clients = known.clients.now; functions = known.functions.now } };
-}
-
 /// What the line says; `None` is nothing.
 #[tactic(auto, unfolding(crate::specs::Script::line_of))]
 pub(crate) fn read_line(alloc: Global, known: &Known, line: &[u8]) -> Result<Option<Entry>, Unread>
+    requires { IsNumbered known.now }
     ensures said { Agrees (line_of known.now line.now) result }
     ensures nothing { line_of known.now line.now ≡ Ok None → result ≡ Ok None }
 {
     if line.len() > LONGEST_LINE {
-        return Err(Unread::Fault(LineFault::Word));
+        return Err(Unread::Fault(LineFault::LineTooLong));
     }
     if is_remark(line) {
         return Ok(None);
@@ -68,6 +46,7 @@ fn is_remark(line: &[u8]) -> bool
 
 #[tactic(auto, unfolding(crate::specs::Script::entry_of))]
 fn read_entry(alloc: Global, known: &Known, mut words: Words) -> Result<Entry, Unread>
+    requires { IsNumbered known.now }
     ensures { Agrees (entry_of known.now words.entry) result }
 {
     match words.next_word() {
@@ -75,11 +54,16 @@ fn read_entry(alloc: Global, known: &Known, mut words: Words) -> Result<Entry, U
             let event = read_put(alloc, known, words)?;
             Ok(Entry::One(event))
         }
+        Some(first) if first == b"ask".as_slice() => {
+            let event = read_ask(alloc, known, words)?;
+            Ok(Entry::One(event))
+        }
+        Some(first) if first == b"turn".as_slice() => read_turn(known, words),
         _ => Err(Unread::Fault(LineFault::Word)),
     }
 }
 
-#[tactic(auto, unfolding(crate::specs::Puts::put_of))]
+#[tactic(auto, unfolding(crate::specs::Script::put_of))]
 fn read_put(alloc: Global, known: &Known, mut words: Words) -> Result<Event, Unread>
     ensures { Agrees (put_of known.now words.entry) result }
 {
@@ -89,7 +73,7 @@ fn read_put(alloc: Global, known: &Known, mut words: Words) -> Result<Event, Unr
         words.next_word(),
         words.next_word(),
     ) else {
-        return Err(Unread::Fault(LineFault::Word));
+        return Err(Unread::Fault(LineFault::Count));
     };
     let label = read_label(known.lattice, label)?;
     let key = read_bytes(alloc, LONGEST_KEY, key)?;
@@ -97,45 +81,50 @@ fn read_put(alloc: Global, known: &Known, mut words: Words) -> Result<Event, Unr
     Ok(Event::Put { label, key, value })
 }
 
-#[tactic(auto, unfolding(crate::specs::Puts::label_of))]
-fn read_label(lattice: &Lattice, word: &[u8]) -> Result<Label, Unread>
-    ensures { Agrees (label_of lattice.now.names word.now) result }
+#[tactic(auto, unfolding(crate::specs::Script::ask_of))]
+fn read_ask(alloc: Global, known: &Known, mut words: Words) -> Result<Event, Unread>
+    requires { IsNumbered known.now }
+    ensures { Agrees (ask_of known.now words.entry) result }
 {
-    match lattice.find(word) {
-        Some(label) => Ok(label),
-        None => Err(Unread::Fault(LineFault::Word)),
-    }
-}
-
-/// The bytes that the word spells, if there are at most so many.
-#[tactic(auto, unfolding(crate::specs::Puts::bytes_of))]
-fn read_bytes(alloc: Global, most: usize, word: &[u8]) -> Result<Bytes, Unread>
-    ensures { Agrees (bytes_of most word.now) result }
-{
-    let Some((b'x', digits)) = word.split_first() else {
-        return Err(Unread::Fault(LineFault::Word));
+    let (Some(label), Some(client), Some(function)) = (
+        words.next_word(),
+        words.next_word(),
+        words.next_word(),
+    ) else {
+        return Err(Unread::Fault(LineFault::Count));
     };
-    match hex::decode(alloc, digits) {
-        Ok(bytes) => {
-            if bytes.len() <= most {
-                Ok(Bytes::from_vec(bytes))
-            } else {
-                Err(Unread::Fault(LineFault::Word))
-            }
-        }
-        Err(FromHexError::OutOfMemory) => Err(Unread::NoMemory),
-        Err(_) => Err(Unread::Fault(LineFault::Word)),
-    }
+    let (Some(id), Some(body), None) = (words.next_word(), words.next_word(), words.next_word())
+    else {
+        return Err(Unread::Fault(LineFault::Count));
+    };
+    let label = read_label(known.lattice, label)?;
+    let client = read_client(known.clients, client)?;
+    let function = read_function(known.functions, function)?;
+    let id = read_id(id)?;
+    let body = read_bytes(alloc, LONGEST_VALUE, body)?;
+    Ok(Event::Ask {
+        label,
+        client,
+        function,
+        id,
+        body,
+    })
 }
 
-/// The value that the word spells, `None` for an absent one.
-#[tactic(auto, unfolding(crate::specs::Puts::value_of))]
-fn read_value(alloc: Global, word: &[u8]) -> Result<Option<Bytes>, Unread>
-    ensures { Agrees (value_of word.now) result }
+#[tactic(auto, unfolding(crate::specs::Script::turn_of))]
+fn read_turn(known: &Known, mut words: Words) -> Result<Entry, Unread>
+    ensures { Agrees (turn_of known.now words.entry) result }
 {
-    if word == b"-".as_slice() {
-        return Ok(None);
+    match (words.next_word(), words.next_word(), words.next_word()) {
+        (Some(label), None, _) => {
+            let label = read_label(known.lattice, label)?;
+            Ok(Entry::One(Event::Turn { label }))
+        }
+        (Some(label), Some(count), None) => {
+            let label = read_label(known.lattice, label)?;
+            let count = read_count(count)?;
+            Ok(Entry::Turns { label, count })
+        }
+        _ => Err(Unread::Fault(LineFault::Count)),
     }
-    let bytes = read_bytes(alloc, LONGEST_VALUE, word)?;
-    Ok(Some(bytes))
 }

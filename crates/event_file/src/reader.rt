@@ -1,15 +1,17 @@
 //! The reader of an event file that comes in pieces.
 
-ghost use Rattle.std.specs.Prelude.{◌≡◌, ◌+◌, ◌<◌, ◌≤◌, ◌==◌, if◌then◌else◌, true, ◌^◌, ◌++◌, [], ◌∷◌, List, ℕ, length, take, drop, false, None, Some, Ok, IfSome, OnOk, OnErr, MatchOption};
+ghost use Rattle.std.specs.Prelude.{◌≡◌, ◌+◌, ◌<◌, ◌≤◌, ◌==◌, if◌then◌else◌, true, ◌^◌, ◌++◌, [], ◌∷◌, List, ℕ, length, take, drop, false, None, Some, Ok, IfSome, OnOk, OnErr, MatchOption, position};
 ghost use Rattle.event_file.specs.Agrees.{Agrees};
 ghost use Rattle.event_file.specs.Lines.{lines_of};
-ghost use Rattle.event_file.specs.Reader.{IsNumbered, IsOneLine, entries_with, said_by};
+ghost use Rattle.event_file.specs.Known.{AreNumbered};
+ghost use Rattle.event_file.specs.Heard.{heard_with};
+ghost use Rattle.event_file.specs.Reader.{IsOneLine, entries_with, said_by};
 
 use crate::entry::Entry;
 use crate::fault::{LineError, LineFault};
-use crate::line::{Known, LONGEST_LINE, Unread, read_line};
+use crate::line::{LONGEST_LINE, read_line};
 use crate::next::Next;
-use crate::places::place_of;
+use crate::words::{Known, Unread};
 use label_lattice::Lattice;
 use std::alloc::Global;
 use std::marker::Model;
@@ -53,8 +55,8 @@ impl<'a> EventReader<'a> {
         clients: &'a [Name],
         functions: &'a [Name],
     ) -> EventReader<'a>
-        requires clients { IsNumbered clients.now }
-        requires functions { IsNumbered functions.now }
+        requires clients { AreNumbered clients.now }
+        requires functions { AreNumbered functions.now }
         ensures { result ≡ record { known = record { labels = lattice.now.names; clients = clients.now; functions = functions.now }; kept = []; lines = 0; fed = 0; finished = false; bad = None } }
     {
         EventReader {
@@ -80,6 +82,7 @@ impl<'a> EventReader<'a> {
         requires few { self.old.fed + length piece.now < 2 ^ 62 }
         ensures ok { OnOk result (self.new ≡ record self.old { kept = self.old.kept ++ piece.now; fed = self.old.fed + length piece.now }) }
         ensures entries { OnOk result ((more : List ℕ) → entries_with self.new more ≡ entries_with self.old (piece.now ++ more)) }
+        ensures heard { OnOk result ((more : List ℕ) → heard_with self.new more ≡ heard_with self.old (piece.now ++ more)) }
         ensures err { OnErr result (self.new ≡ self.old) }
     {
         if self.start >= self.buffer.len() - self.start {
@@ -102,12 +105,21 @@ impl<'a> EventReader<'a> {
         self.fed
     }
 
+    /// How many bytes were fed that no entry and no line that says nothing has used. After `NoLine` of `next_line` they
+    /// are at most 140,000.
+    pub fn held(&self) -> usize
+        ensures { result ≡ length self.now.kept }
+    {
+        self.buffer.len() - self.start
+    }
+
     /// The next entry of the whole lines fed. `NoMemory` leaves its line in place.
     pub fn next_line(&mut self) -> Next
         ensures again { IfSome self.old.bad (λ bad. (result ≡ Next.Bad bad) × (self.new ≡ self.old)) }
         ensures due { self.old.bad ≡ None → IsDue (first_said self.old (lines_of self.old.kept)) result }
         ensures answer { self.old.bad ≡ None → Advances self.old self.new result }
-        ensures entries { self.old.bad ≡ None → (more : List ℕ) → Continues self.old self.new result more }
+        ensures entries { self.old.bad ≡ None → (more : List ℕ) → Continues entries_with self.old self.new result more }
+        ensures heard { self.old.bad ≡ None → (more : List ℕ) → Continues heard_with self.old self.new result more }
         ensures stays { self.new ≡ record self.old { kept = self.new.kept; lines = self.new.lines; bad = bad_after self.old.bad result } }
         ensures leaves { Leaves self.old self.new result }
         ensures within { GivesWithin self.new result }
@@ -127,7 +139,7 @@ impl<'a> EventReader<'a> {
             }
         }
         if self.held() > LONGEST_LINE {
-            return self.stop(LineFault::Word);
+            return self.stop(LineFault::LineTooLong);
         }
         Next::NoLine
     }
@@ -165,7 +177,7 @@ impl<'a> EventReader<'a> {
         ensures end { MatchOption result (IsOneLine self.old.kept) (λ len. (len < length self.old.kept) × (lines_of self.old.kept ≡ take len self.old.kept ∷ lines_of (drop (len + 1) self.old.kept))) }
     {
         let rest = &self.buffer[self.start + self.searched..];
-        match place_of(b'\n', rest) {
+        match end_in(rest) {
             Some(at) => {
                 self.searched += at;
                 Some(self.searched)
@@ -175,13 +187,6 @@ impl<'a> EventReader<'a> {
                 None
             }
         }
-    }
-
-    /// How many bytes are kept.
-    fn held(&self) -> usize
-        ensures { result ≡ length self.now.kept }
-    {
-        self.buffer.len() - self.start
     }
 
     /// What so many of the bytes kept say as a line.
@@ -237,4 +242,11 @@ impl<'a> EventReader<'a> {
         self.buffer.truncate(held);
         self.start = 0;
     }
+}
+
+/// The place of the first line feed.
+fn end_in(bytes: &[u8]) -> Option<usize>
+    ensures { result ≡ position (λ byte. byte == 10) bytes.now }
+{
+    bytes.iter().position(|byte| *byte == b'\n')
 }

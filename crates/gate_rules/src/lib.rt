@@ -4,6 +4,8 @@
 mod filter;
 mod gate;
 mod gates;
+#[cfg(test)]
+mod tests;
 
 pub use filter::Filter;
 pub use gate::Gate;

@@ -2,7 +2,7 @@
 
 ghost use Rattle.std.specs.Prelude.{◌≡◌, ◌<◌, ◌++◌, ◌∷◌, [], None, length, OnOk, OnErr};
 ghost use Rattle.label_lattice.specs.Order.{count};
-ghost use Rattle.labelled_channel.specs.Delivering.{channel_of, delivered, AreAtLabels, AreNamedApart};
+ghost use Rattle.labelled_channel.specs.Delivering.{channel_of, delivered, AreAtLabels, AreNamedApart, AreUnderNames};
 
 use indexmap::IndexMap;
 use label_lattice::{Label, Lattice};
@@ -38,13 +38,13 @@ pub struct Channels {
 impl Model for Channels {
     ghost use Rattle.std.specs.Prelude.{List, ℕ, map};
     ghost use Rattle.labelled_channel.specs.declared.channels.Channel.{Channel};
-    ghost use Rattle.labelled_channel.specs.Delivering.{AreNamedApart};
+    ghost use Rattle.labelled_channel.specs.Delivering.{AreNamedApart, AreUnderNames};
 
     ghost Value = { List (List ℕ × Channel) };
 
     ghost view = { λ c. map (λ e. (e.0.items, e.1)) c.channels.entries };
 
-    ghost invariant = { λ c. AreNamedApart (map (λ e. (e.0.items, e.1)) c.channels.entries) };
+    ghost invariant = { λ c. AreNamedApart (map (λ e. (e.0.items, e.1)) c.channels.entries) × AreUnderNames (map (λ e. (e.0.items, e.1)) c.channels.entries) };
 }
 
 impl Channels {
@@ -79,6 +79,7 @@ impl Channels {
         requires labels { AreAtLabels (count lattice.now) self.now }
         ensures delivered { result ≡ delivered lattice.now at.number (channel_of name.now self.now) }
         ensures apart { AreNamedApart self.now }
+        ensures named { AreUnderNames self.now }
     {
         let Some(channel) = self.channels.get(name) else {
             return Delivery::Unknown;

@@ -9,7 +9,7 @@ use Rattle.label_limits.specs.declared.limits.LimitError.{LimitError}
 use Rattle.label_limits.specs.declared.limits.LimitError.TheVariants as fault
 use Rattle.policy_toml.specs.declared.place.Place.{Place}
 use Rattle.policy_toml.specs.declared.error.PolicyError.TheVariants.{WrongKind, OutOfRange}
-use Rattle.policy_toml.specs.Rows.{◌>>=◌}
+use Rattle.trapeze_io.specs.Answers.{◌>>=◌}
 use Rattle.policy_toml.specs.Steps.{limit}
 
 -- the first of six tests that fails, from 1

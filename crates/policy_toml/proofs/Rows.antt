@@ -12,7 +12,7 @@ use Rattle.std.specs.Cmp.{both_ways, tied_itself}
 use Rattle.std.specs.Cmp.Lexicographic.{pointwise, slice_cmp}
 use Rattle.std.specs.List.{AllByRecursion, position_from}
 use Rattle.std.specs.List.Sorted.{IsStrictlySortedBy}
-use Rattle.std.specs.Map.{keys_of}
+use Rattle.std.specs.Map.{keys_of, lookup}
 use Rattle.std.specs.Str.{IsUtf8, is_utf8}
 use Rattle.std.specs.String.{string_cmp}
 use lib.Pointwise.{bytes_decides}
@@ -22,14 +22,13 @@ use Rattle.toml.specs.View.{view, items_view, members_view}
 use Rattle.toml.specs.declared.value.Value.{Value}
 use Rattle.toml.proofs.Views.{Entry, items_view-drop}
 use Rattle.label_lattice.specs.declared.label.Label.{Label}
-use Rattle.labelled_channel.specs.Delivering.{channel_of}
-use Rattle.labelled_channel.specs.declared.channels.Channel.{Channel}
 use Rattle.policy_toml.specs.declared.place.Part.{Part}
 use Rattle.policy_toml.specs.declared.error.PolicyError.{PolicyError}
 use Rattle.policy_toml.specs.declared.error.PolicyError.TheVariants.{Toml, OutOfRange}
 use Rattle.trapeze_io.specs.Names.{Ascend}
 use Rattle.policy_toml.specs.Places.{whole}
-use Rattle.policy_toml.specs.Rows.{Reading, ◌>>=◌, each_row, items_of, rows_of, keys_in}
+use Rattle.trapeze_io.specs.Answers.{◌>>=◌}
+use Rattle.policy_toml.specs.Rows.{Reading, each_row, items_of, rows_of, keys_in}
 use Rattle.policy_toml.specs.Steps.{document_of, two_texts, at_most}
 
 -- what was found, and then what the rest reads as
@@ -175,15 +174,15 @@ apart_from a k less = both_ways (pointwise nat_eq k a) false
     (λ e. let same : k ≡ a = (bytes_decides k a).0 e in let tied : slice_cmp nat_cmp a a ≡ Equal = tied_itself nat_list_cmp_total a in
     let less_itself : slice_cmp nat_cmp a a ≡ Less = ap (slice_cmp nat_cmp a) (sym same) ∙ less in cc) (λ e. cc)
 
-new_channel : (found : List (List ℕ × Channel)) (name : List ℕ) (more : List (List ℕ)) → Ascend (map (λ c. c.0) found ++ name ∷ more) → channel_of name found ≡ None
+new_name : {V : Type 0} (found : List (List ℕ × V)) (name : List ℕ) (more : List (List ℕ)) → Ascend (map (λ c. c.0) found ++ name ∷ more) → lookup (pointwise nat_eq name) found ≡ None
 unfolding IsStrictlySortedBy
-new_channel [] name more h = refl
-new_channel (c ∷ found) name more h =
-    ap (λ b. cond b (Some c.1) (channel_of name found)) (apart_from c.0 name (all_within (λ y. slice_cmp nat_cmp c.0 y ≡ Less) (map (λ c. c.0) found) name more h.0))
-    ∙ new_channel found name more h.1
+new_name [] name more h = refl
+new_name (c ∷ found) name more h =
+    ap (λ b. cond b (Some c.1) (lookup (pointwise nat_eq name) found)) (apart_from c.0 name (all_within (λ y. slice_cmp nat_cmp c.0 y ≡ Less) (map (λ c. c.0) found) name more h.0))
+    ∙ new_name found name more h.1
 
-pub Named-new : (P : List ℕ × Channel → Type 0) (found : List (List ℕ × Channel)) (name : List ℕ) (d : Data) (left all : Members) → Named (λ c. c.0) P found (member name d left) all → channel_of name found ≡ None
-Named-new P found name d left all so = new_channel found name (keys_in left) (subst Ascend (sym so.names) so.ascend)
+pub Named-new : {V : Type 0} (P : List ℕ × V → Type 0) (found : List (List ℕ × V)) (name : List ℕ) (d : Data) (left all : Members) → Named (λ c. c.0) P found (member name d left) all → lookup (pointwise nat_eq name) found ≡ None
+Named-new P found name d left all so = new_name found name (keys_in left) (subst Ascend (sym so.names) so.ascend)
 
 -- the same, at the entries of a map: one more entry was read, or none is left
 pub SoFar-next : {Y : Type 0} (read : ℕ → List ℕ × Data → Reading Y) (all : List (List ℕ × Data)) (es left : List Entry) (key : String Global) (v : Value) (found now : List Y) (y : Y)
@@ -200,8 +199,8 @@ pub SoFar-count : {Y : Type 0} (read : ℕ → List ℕ × Data → Reading Y) (
 SoFar-count read all es found so none =
     each_row-length read 1 all found (SoFar-done read all found (subst (λ (x : List Entry). SoFar read all (rows_of (members_view x)) found) none so))
 
-pub Named-fresh : (P : List ℕ × Channel → Type 0) (es left all : List Entry) (key : String Global) (v : Value) (found : List (List ℕ × Channel)) (name : List ℕ)
-    → Named (λ c. c.0) P found (members_view es) (members_view all) → es ≡ (key, v) ∷ left → name ≡ string_bytes key → channel_of name found ≡ None
+pub Named-fresh : {V : Type 0} (P : List ℕ × V → Type 0) (es left all : List Entry) (key : String Global) (v : Value) (found : List (List ℕ × V)) (name : List ℕ)
+    → Named (λ c. c.0) P found (members_view es) (members_view all) → es ≡ (key, v) ∷ left → name ≡ string_bytes key → lookup (pointwise nat_eq name) found ≡ None
 Named-fresh P es left all key v found name so step is =
     rw is (Named-new P found (string_bytes key) (view v) (members_view left) (members_view all) (subst (λ (x : List Entry). Named (λ c. c.0) P found (members_view x) (members_view all)) step so))
 

@@ -8,8 +8,9 @@ use Rattle.label_lattice.specs.Order.{Order, count}
 use Rattle.label_limits.specs.Ranges.{AreWithin}
 use Rattle.label_limits.specs.declared.limits.Limits.{Limits}
 use Rattle.labelled_channel.specs.declared.channels.Channel.{Channel}
+use Rattle.gate_rules.specs.declared.gate.Gate.{Gate}
 use Rattle.trapeze_io.specs.Names.{Ascend}
-use Rattle.policy_toml.specs.Steps.{root_keys, labels_of, flows_of, lattice_of, limits_of, functions_of, channels_of, clients_of, is_file_name, IsFunction, IsClient, IsChannel}
+use Rattle.policy_toml.specs.Steps.{root_keys, labels_of, flows_of, lattice_of, limits_of, functions_of, channels_of, clients_of, gates_of, is_file_name, IsFunction, IsClient, IsChannel, IsGate}
 use Rattle.policy_toml.specs.Parts.{IsPolicy}
 use Rattle.policy_toml.specs.PolicyOf.{table_policy}
 
@@ -28,11 +29,11 @@ pub record ClientsRead (labels : ℕ) (rows : List (List ℕ × ℕ)) (names : L
   pub each : All (IsClient labels) rows
   pub few : length rows ≤ 65536
 
-pub is_policy : (order : Order) (limits : List Limits) (channels : List (List ℕ × Channel)) (functions files clients : List (List ℕ)) (clearances : List ℕ) (function_rows : List (List ℕ × List ℕ)) (client_rows : List (List ℕ × ℕ))
+pub is_policy : (order : Order) (limits : List Limits) (channels : List (List ℕ × Channel)) (functions files clients : List (List ℕ)) (clearances : List ℕ) (gates : List (List ℕ × Gate)) (function_rows : List (List ℕ × List ℕ)) (client_rows : List (List ℕ × ℕ))
     → length limits ≡ count order → All AreWithin limits → All (IsChannel (count order) (length functions)) channels
-    → FunctionsRead function_rows functions files → ClientsRead (count order) client_rows clients clearances
-    → IsPolicy (record { lattice = order; limits = limits; channels = channels; functions = functions; files = files; clients = clients; clearances = clearances })
-is_policy order limits channels functions files clients clearances function_rows client_rows one_row within below f c =
+    → FunctionsRead function_rows functions files → ClientsRead (count order) client_rows clients clearances → All (IsGate (count order) (length functions)) gates
+    → IsPolicy (record { lattice = order; limits = limits; channels = channels; functions = functions; files = files; clients = clients; clearances = clearances; gates = gates })
+is_policy order limits channels functions files clients clearances gates function_rows client_rows one_row within below f c lead =
     let functions_count : length functions ≡ length function_rows = ap length f.names_are ∙ length-map function_rows (λ row. row.0) in
     let files_count : length files ≡ length function_rows = ap length f.files_are ∙ length-map function_rows (λ row. row.1) in
     let clients_count : length clients ≡ length client_rows = ap length c.names_are ∙ length-map client_rows (λ row. row.0) in
@@ -51,12 +52,13 @@ is_policy order limits channels functions files clients clearances function_rows
       few_clients = few_clients;
       one_clearance_per_client = clearances_count ∙ sym clients_count;
       clearances = subst (λ (x : List ℕ). All (λ label. label < count order) x) (sym c.clearances_are) (All-map (λ label. label < count order) (λ row. row.1) client_rows c.each);
+      gates = lead;
     }
 
 -- every step gave a value, so the table is a policy
-pub accepted : (root : Members) (names : List (List ℕ)) (flows : List (List ℕ × List ℕ)) (limits : List (ℕ × List ℤ)) (functions : List (List ℕ × List ℕ)) (channels : List (List ℕ × Channel)) (clients : List (List ℕ × ℕ))
+pub accepted : (root : Members) (names : List (List ℕ)) (flows : List (List ℕ × List ℕ)) (limits : List (ℕ × List ℤ)) (functions : List (List ℕ × List ℕ)) (channels : List (List ℕ × Channel)) (clients : List (List ℕ × ℕ)) (gates : List (List ℕ × Gate))
     → root_keys root ≡ Ok tt → labels_of root ≡ Ok names → flows_of root ≡ Ok flows → lattice_of names flows ≡ Ok tt → limits_of names root ≡ Ok limits → functions_of root ≡ Ok functions
-    → channels_of names (map (λ f. f.0) functions) root ≡ Ok channels → clients_of names root ≡ Ok clients
-    → table_policy root ≡ Ok (record { names = names; flows = flows; limits = limits; functions = functions; channels = channels; clients = clients })
+    → channels_of names (map (λ f. f.0) functions) root ≡ Ok channels → clients_of names root ≡ Ok clients → gates_of names (map (λ f. f.0) functions) root ≡ Ok gates
+    → table_policy root ≡ Ok (record { names = names; flows = flows; limits = limits; functions = functions; channels = channels; clients = clients; gates = gates })
 unfolding table_policy
-accepted root names flows limits functions channels clients a b c d e f g h = rw (a, b, c, d, e, f, g, h) refl
+accepted root names flows limits functions channels clients gates a b c d e f g h i = rw (a, b, c, d, e, f, g, h, i) refl

@@ -4,8 +4,9 @@ use Rattle.label_lattice.specs.Order.{Order, count}
 use Rattle.label_limits.specs.Ranges.{AreWithin}
 use Rattle.label_limits.specs.declared.limits.Limits.{Limits}
 use Rattle.labelled_channel.specs.declared.channels.Channel.{Channel}
+use Rattle.gate_rules.specs.declared.gate.Gate.{Gate}
 use Rattle.trapeze_io.specs.Names.{Ascend}
-use Rattle.policy_toml.specs.Steps.{is_file_name, IsChannel}
+use Rattle.policy_toml.specs.Steps.{is_file_name, IsChannel, IsGate}
 
 -- the parts of a policy; functions and clients are numbered by position
 pub record Parts : Type 0 where
@@ -16,6 +17,7 @@ pub record Parts : Type 0 where
   pub files : List (List ℕ)
   pub clients : List (List ℕ)
   pub clearances : List ℕ
+  pub gates : List (List ℕ × Gate)
 
 -- a row of limits for each label, a file for each function, a clearance for each client; names in byte order; no number out of range
 pub record IsPolicy (parts : Parts) : Type 0 where
@@ -30,3 +32,4 @@ pub record IsPolicy (parts : Parts) : Type 0 where
   pub few_clients : length parts.clients ≤ 65536
   pub one_clearance_per_client : length parts.clearances ≡ length parts.clients
   pub clearances : All (λ label. label < count parts.lattice) parts.clearances
+  pub gates : All (IsGate (count parts.lattice) (length parts.functions)) parts.gates

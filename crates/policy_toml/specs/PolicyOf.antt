@@ -5,11 +5,14 @@ use Rattle.label_lattice.specs.Faults.{Denotes}
 use Rattle.label_limits.specs.Ranges.{limits_with}
 use Rattle.label_limits.specs.declared.limits.Limits.{Limits}
 use Rattle.labelled_channel.specs.declared.channels.Channel.{Channel}
-use Rattle.policy_toml.specs.Rows.{Reading, ◌>>=◌}
-use Rattle.policy_toml.specs.Steps.{document_of, root_keys, labels_of, flows_of, lattice_of, limits_of, functions_of, channels_of, clients_of, usual_numbers}
+use Rattle.gate_rules.specs.declared.gate.Gate.{Gate}
+use Rattle.trapeze_io.specs.Answers.{◌>>=◌}
+use Rattle.policy_toml.specs.Rows.{Reading}
+use Rattle.policy_toml.specs.Steps.{document_of, root_keys, labels_of, flows_of, lattice_of, limits_of, functions_of, channels_of, clients_of, gates_of, usual_numbers}
 use Rattle.policy_toml.specs.Parts.{Parts}
 
--- what a policy file says: labels, flows, limits by label, functions with their files, channels with a label and a function, clients with a label
+-- what a policy file says: labels, flows, limits by label, functions with their files, channels with a label and a function, clients with a label,
+-- gates
 pub record Written : Type 0 where
   pub names : List (List ℕ)
   pub flows : List (List ℕ × List ℕ)
@@ -17,6 +20,7 @@ pub record Written : Type 0 where
   pub functions : List (List ℕ × List ℕ)
   pub channels : List (List ℕ × Channel)
   pub clients : List (List ℕ × ℕ)
+  pub gates : List (List ℕ × Gate)
 
 -- what a root table says, or its first fault
 unfoldable pub table_policy : Members → Reading Written
@@ -29,7 +33,8 @@ table_policy root =
     functions_of root >>= (λ functions.
     channels_of names (map (λ f. f.0) functions) root >>= (λ channels.
     clients_of names root >>= (λ clients.
-    Ok (record { names = names; flows = flows; limits = limits; functions = functions; channels = channels; clients = clients })))))))))
+    gates_of names (map (λ f. f.0) functions) root >>= (λ gates.
+    Ok (record { names = names; flows = flows; limits = limits; functions = functions; channels = channels; clients = clients; gates = gates }))))))))))
 
 -- what the bytes say, or their first fault
 abbrev pub policy_of : List ℕ → Reading Written
@@ -51,6 +56,7 @@ pub record IsAsWritten (written : Written) (parts : Parts) : Type 0 where
   pub channels : parts.channels ≡ written.channels
   pub clients : parts.clients ≡ map (λ c. c.0) written.clients
   pub clearances : parts.clearances ≡ map (λ c. c.1) written.clients
+  pub gates : parts.gates ≡ written.gates
 
 -- the reading gave what the parts are
 pub record IsRead (parts : Parts) (read : Reading Written) : Type 0 where

@@ -2,6 +2,7 @@
 use Rattle.std.specs.Prelude.{◌≡◌, ◌≢◌, ℕ, ◌+◌, Bool, not, List, [], ◌∷◌, Option, Some, None, ok_or, Result, Ok, Err, codes, nat_eq}
 use Rattle.std.specs.List.{list_any, position_from}
 use Rattle.std.specs.Cmp.Lexicographic.{pointwise}
+use Rattle.trapeze_io.specs.Answers.{◌>>=◌}
 use Rattle.toml.specs.Data.{Data, as_str, as_table, Items, no_items, item, Members, no_members, member, get_member}
 use Rattle.policy_toml.specs.declared.place.Part.{Part}
 use Rattle.policy_toml.specs.declared.place.Part.TheVariants as part
@@ -13,12 +14,6 @@ use Rattle.policy_toml.specs.Places.{row_of}
 -- what is read, or the first fault
 abbrev pub Reading : Type 0 → Type 0
 Reading X = Result X PolicyError
-
--- one reading, and then the next one from what it gave; its fault comes first
-infixl 10 ◌>>=◌
-abbrev pub ◌>>=◌ : {X Y : Type 0} → Reading X → (X → Reading Y) → Reading Y
-Ok x >>= next = next x
-Err fault >>= next = Err fault
 
 -- a test that gives nothing but its fault
 abbrev pub unless : Option PolicyError → Reading (Unit {0})
@@ -51,13 +46,14 @@ where_written (Some d) read = read d
 
 -- the keys of the root, and of the rows of a part
 abbrev pub keys_of : Part → List (List ℕ)
-keys_of part.Root = codes "labels" ∷ codes "flows" ∷ codes "limits" ∷ codes "functions" ∷ codes "channels" ∷ codes "clients" ∷ []
+keys_of part.Root = codes "labels" ∷ codes "flows" ∷ codes "limits" ∷ codes "functions" ∷ codes "channels" ∷ codes "clients" ∷ codes "gates" ∷ []
 keys_of part.Labels = []
 keys_of part.Flows = []
 keys_of part.Limits = codes "quantum" ∷ codes "fuel" ∷ codes "pages" ∷ codes "queue" ∷ codes "facets" ∷ codes "bytes" ∷ []
 keys_of part.Functions = []
 keys_of part.Channels = codes "label" ∷ codes "function" ∷ []
 keys_of part.Clients = codes "clearance" ∷ []
+keys_of part.Gates = codes "source" ∷ codes "target" ∷ codes "function" ∷ codes "filter" ∷ codes "count" ∷ []
 
 abbrev pub is_key_of : Part → List ℕ → Bool
 is_key_of part key = list_any (pointwise nat_eq key) (keys_of part)

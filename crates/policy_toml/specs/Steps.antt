@@ -1,21 +1,25 @@
 -- The tests of a policy, in their order: a fault of an earlier one comes first.
-use Rattle.std.specs.Prelude.{◌≡◌, IsTrue, ℕ, ◌+◌, ◌-◌, ◌<◌, slice_set, Bool, ◌&&◌, nat_le, List, [], ◌∷◌, length, Option, Some, None, option_map, option_and_then, ok_or, Ok, Err, ℤ, codes, if◌then◌else◌}
+use Rattle.std.specs.Prelude.{◌≡◌, IsTrue, ℕ, ◌+◌, ◌-◌, ◌<◌, slice_set, Bool, ◌&&◌, nat_le, List, [], ◌∷◌, length, Option, Some, None, option_map, option_and_then, ok_or, Ok, Err, ℤ, pos, negsuc, codes, if◌then◌else◌}
 use Rattle.std.specs.List.{slice_index_or}
-use Rattle.std.specs.Str.{is_utf8}
+use Rattle.std.specs.Str.{is_utf8, bytes_eq}
 use Rattle.label_lattice.specs.declared.label.Label.{Label}
 use Rattle.toml.specs.Parse.{parse_document}
 use Rattle.toml.specs.Data.{Data, as_str, as_integer, as_array, as_table, Items, no_items, item, Members, get_member}
+use Rattle.trapeze_io.specs.Answers.{◌>>=◌}
 use Rattle.trapeze_io.specs.Names.{is_name}
 use Rattle.label_lattice.specs.Order.{place_of}
 use Rattle.label_lattice.specs.Faults.{first_fault}
 use Rattle.label_limits.specs.Ranges.{ranges, is_within, first_outside, numbers_of, usual}
 use Rattle.labelled_channel.specs.declared.channels.Channel.{Channel}
+use Rattle.gate_rules.specs.declared.filter.Filter.{Filter}
+use Rattle.gate_rules.specs.declared.filter.Filter.TheVariants as filter
+use Rattle.gate_rules.specs.declared.gate.Gate.{Gate}
 use Rattle.policy_toml.specs.declared.place.Part.{Part}
 use Rattle.policy_toml.specs.declared.place.Part.TheVariants as part
 use Rattle.policy_toml.specs.declared.place.Place.{Place}
 use Rattle.policy_toml.specs.declared.error.PolicyError.TheVariants.{Toml, Extra, Missing, WrongKind, Lattice, BadName, UnknownLabel, UnknownFunction, OutOfRange}
 use Rattle.policy_toml.specs.Places.{whole, row_of, field_of}
-use Rattle.policy_toml.specs.Rows.{Reading, ◌>>=◌, unless, each_row, items_of, rows_of, where_written, keys_of, extra_key, row_table, text_at}
+use Rattle.policy_toml.specs.Rows.{Reading, unless, each_row, items_of, rows_of, where_written, keys_of, extra_key, row_table, text_at}
 
 -- the bytes are a UTF-8 text that is a TOML document
 abbrev pub document_of : List ℕ → Reading Members
@@ -169,6 +173,63 @@ clients_in names d =
 unfoldable pub clients_of : List (List ℕ) → Members → Reading (List (List ℕ × ℕ))
 clients_of names root = where_written (get_member (codes "clients") root) (clients_in names)
 
+-- the most bytes of which a gate may let through the first ones
+abbrev pub largest_count : ℕ
+largest_count = 65536
+
+-- the filter of a text, with the largest count
+abbrev pub filter_named : List ℕ → Option Filter
+filter_named text =
+    if bytes_eq text (codes "all") then Some filter.All
+    else if bytes_eq text (codes "length") then Some filter.Length
+    else if bytes_eq text (codes "first") then Some (filter.First largest_count)
+    else None
+
+-- a field that is one of the three texts
+abbrev pub filter_at : List ℕ → Place → Members → Reading Filter
+filter_at key place table = text_at key place table >>= (λ text. ok_or (filter_named text) (WrongKind place))
+
+-- a count is 0 to 65,536
+abbrev pub count_within : Place → ℤ → Reading ℕ
+count_within place (pos count) = if nat_le count largest_count then Ok count else Err (OutOfRange place)
+count_within place (negsuc count) = Err (OutOfRange place)
+
+-- a field that is a count, the largest one where it is not written
+abbrev pub count_in : Place → Option Data → Reading ℕ
+count_in place None = Ok largest_count
+count_in place (Some d) = ok_or (as_integer d) (WrongKind place) >>= count_within place
+
+-- a count is of the first bytes alone
+abbrev pub with_count : Filter → ℕ → Filter
+with_count filter.All count = filter.All
+with_count filter.Length count = filter.Length
+with_count (filter.First most) count = filter.First count
+
+-- a gate has a source and a target, which are labels, a function, a filter and a count
+unfoldable pub gate_fields : List (List ℕ) → List (List ℕ) → ℕ → Members → Reading Gate
+gate_fields names functions row table = do
+  source ← label_at names (codes "source") (field_of part.Gates row 1) table
+  target ← label_at names (codes "target") (field_of part.Gates row 2) table
+  function ← function_at functions (codes "function") (field_of part.Gates row 3) table
+  lets ← filter_at (codes "filter") (field_of part.Gates row 4) table
+  count ← count_in (field_of part.Gates row 5) (get_member (codes "count") table)
+  Ok (record { source = record { number = source }; target = record { number = target }; function = function; filter = with_count lets count })
+
+-- a gate has a name, and its row is a table
+abbrev pub gate_row : List (List ℕ) → List (List ℕ) → ℕ → List ℕ × Data → Reading (List ℕ × Gate)
+gate_row names functions row entry =
+    name_of part.Gates row entry.0 >>= (λ name.
+    row_table part.Gates row entry.1 >>= (λ table.
+    gate_fields names functions row table >>= (λ gate. Ok (name, gate))))
+
+-- the gates, where they are written, are a table
+abbrev pub gates_in : List (List ℕ) → List (List ℕ) → Data → Reading (List (List ℕ × Gate))
+gates_in names functions d =
+    ok_or (as_table d) (WrongKind (whole part.Gates)) >>= (λ table. each_row (gate_row names functions) 1 (rows_of table))
+
+unfoldable pub gates_of : List (List ℕ) → List (List ℕ) → Members → Reading (List (List ℕ × Gate))
+gates_of names functions root = where_written (get_member (codes "gates") root) (gates_in names functions)
+
 -- a channel as it is read
 abbrev pub shown_channel : List ℕ × Label × ℕ → List ℕ × Channel
 shown_channel row = (row.0, record { at = row.1; function = row.2 })
@@ -180,6 +241,11 @@ IsFunction function = IsTrue (is_file_name function.1)
 -- a channel's label and function are below these counts
 abbrev pub IsChannel : ℕ → ℕ → List ℕ × Channel → Type 0
 IsChannel labels functions channel = (channel.1.at.number < labels) × (channel.1.function < functions)
+
+-- a gate's labels and function are below these counts
+abbrev pub IsGate : ℕ → ℕ → List ℕ × Gate → Type 0
+IsGate labels functions gate =
+    (gate.1.source.number < labels) × (gate.1.target.number < labels) × (gate.1.function < functions)
 
 -- a client's clearance is below this count
 abbrev pub IsClient : ℕ → List ℕ × ℕ → Type 0

@@ -1,5 +1,5 @@
-//! The policy of a host, read from TOML: labels and their order, limits, functions, channels and clients, or the first
-//! fault in a fixed order.
+//! The policy of a host, read from TOML: labels and their order, limits, functions, channels, clients and gates, or
+//! the first fault in a fixed order.
 #![tactic(auto)]
 
 mod channels;
@@ -7,6 +7,7 @@ mod clients;
 mod document;
 mod error;
 mod functions;
+mod gates;
 mod labels;
 mod limits;
 mod place;

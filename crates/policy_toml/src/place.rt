@@ -10,6 +10,7 @@ pub enum Part {
     Functions,
     Channels,
     Clients,
+    Gates,
 }
 
 /// Where a fault of a policy stands.

@@ -4,13 +4,14 @@ ghost use Rattle.std.specs.Prelude.{◌≡◌, ◌<◌, Some, length, map, slice
 ghost use Rattle.label_lattice.specs.Order.{count};
 ghost use Rattle.policy_toml.specs.Parts.{IsPolicy};
 
+use gate_rules::Gates;
 use label_lattice::{Label, Lattice};
 use label_limits::Limits;
 use labelled_channel::Channels;
 use std::marker::Model;
 use trapeze_io::Name;
 
-/// The labels of a host with their order and limits, its functions, channels and clients. Functions and clients are
+/// The labels of a host with their order and limits, its functions, channels, clients and gates. Functions and clients are
 /// numbered from 0 in byte order of their names.
 #[derive(Drop)]
 pub struct Policy {
@@ -21,6 +22,7 @@ pub struct Policy {
     files: Vec<String>,
     clients: Vec<Name>,
     clearances: Vec<Label>,
+    gates: Gates,
 }
 
 impl Model for Policy {
@@ -29,9 +31,9 @@ impl Model for Policy {
 
     ghost Value = { Parts };
 
-    ghost view = { λ p. record { lattice = p.lattice; limits = p.limits.items; channels = p.channels; functions = p.functions.items; files = map (λ file. string_bytes file) p.files.items; clients = p.clients.items; clearances = map (λ label. label.number) p.clearances.items } };
+    ghost view = { λ p. record { lattice = p.lattice; limits = p.limits.items; channels = p.channels; functions = p.functions.items; files = map (λ file. string_bytes file) p.files.items; clients = p.clients.items; clearances = map (λ label. label.number) p.clearances.items; gates = p.gates } };
 
-    ghost invariant = { λ p. IsPolicy (record { lattice = p.lattice; limits = p.limits.items; channels = p.channels; functions = p.functions.items; files = map (λ file. string_bytes file) p.files.items; clients = p.clients.items; clearances = map (λ label. label.number) p.clearances.items }) };
+    ghost invariant = { λ p. IsPolicy (record { lattice = p.lattice; limits = p.limits.items; channels = p.channels; functions = p.functions.items; files = map (λ file. string_bytes file) p.files.items; clients = p.clients.items; clearances = map (λ label. label.number) p.clearances.items; gates = p.gates }) };
 }
 
 impl Policy {
@@ -45,9 +47,10 @@ impl Policy {
         files: Vec<String>,
         clients: Vec<Name>,
         clearances: Vec<Label>,
+        gates: Gates,
     ) -> Policy
-        requires { IsPolicy (record { lattice = lattice; limits = limits.items; channels = channels; functions = functions.items; files = map (λ file. string_bytes file) files.items; clients = clients.items; clearances = map (λ label. label.number) clearances.items }) }
-        ensures { result ≡ record { lattice = lattice; limits = limits.items; channels = channels; functions = functions.items; files = map (λ file. string_bytes file) files.items; clients = clients.items; clearances = map (λ label. label.number) clearances.items } }
+        requires { IsPolicy (record { lattice = lattice; limits = limits.items; channels = channels; functions = functions.items; files = map (λ file. string_bytes file) files.items; clients = clients.items; clearances = map (λ label. label.number) clearances.items; gates = gates }) }
+        ensures { result ≡ record { lattice = lattice; limits = limits.items; channels = channels; functions = functions.items; files = map (λ file. string_bytes file) files.items; clients = clients.items; clearances = map (λ label. label.number) clearances.items; gates = gates } }
     {
         Policy {
             lattice,
@@ -57,6 +60,7 @@ impl Policy {
             files,
             clients,
             clearances,
+            gates,
         }
     }
 
@@ -115,5 +119,13 @@ impl Policy {
         ensures within { result.number < count self.now.lattice }
     {
         self.clearances[client as usize]
+    }
+
+    /// The gates.
+    pub fn gates(&self) -> &Gates
+        ensures gates { result.now ≡ self.now.gates }
+        ensures policy { IsPolicy self.now }
+    {
+        &self.gates
     }
 }

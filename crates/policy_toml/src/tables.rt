@@ -28,6 +28,7 @@ fn is_key_of(part: Part, key: &str) -> bool
         Part::Limits => is_limit(key),
         Part::Channels => key == "label" || key == "function",
         Part::Clients => key == "clearance",
+        Part::Gates => is_gate_key(key),
         _ => false,
     }
 }
@@ -41,6 +42,13 @@ fn is_root_key(key: &str) -> bool
         || key == "functions"
         || key == "channels"
         || key == "clients"
+        || key == "gates"
+}
+
+fn is_gate_key(key: &str) -> bool
+    ensures { result ≡ is_key_of Part.Gates key.now }
+{
+    key == "source" || key == "target" || key == "function" || key == "filter" || key == "count"
 }
 
 fn is_limit(key: &str) -> bool

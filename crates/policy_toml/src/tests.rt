@@ -1,6 +1,7 @@
 //! What no clause says: every fault of the order with its place, faults that stand together, and policies that are read.
 
 mod faults;
+mod gates;
 mod order;
 mod parts;
 mod ranges;
@@ -8,6 +9,7 @@ mod sizes;
 mod whole;
 
 use crate::{Part, Place, PolicyError, read_policy};
+use label_lattice::LatticeError;
 use std::alloc::Global;
 use std::process::Abort;
 use std::test::Fail;
@@ -26,6 +28,9 @@ enum Wrong {
 
 /// A text, what is wrong in it, and the row and the item.
 type Case = (&'static str, Wrong, u64, u32);
+
+/// A text with more than one fault, and the part, the row and the item of the one that is answered.
+type Placed = (&'static str, Wrong, Part, u64, u32);
 
 /// Two labels with their flow, and a function.
 const HEAD: &str =
@@ -51,6 +56,45 @@ fn fault(wrong: Wrong, place: Place) -> PolicyError {
 /// The first fault of a text, if it has one.
 fn fault_of(alloc: Global, text: &str) -> Option<PolicyError> {
     read_policy(alloc, text.as_bytes()).err()
+}
+
+/// Each text, after the same head, has the fault at the place that stands beside it.
+fn have_first_faults(
+    rt: &impl Abort,
+    alloc: Global,
+    head: &str,
+    cases: &[Placed],
+) -> Result<(), Fail> {
+    for (text, wrong, part, row, item) in cases {
+        let whole = format!(in alloc; "{head}{text}")?;
+        let place = Place {
+            part: *part,
+            row: *row,
+            item: *item,
+        };
+        assert_eq!(rt;
+            fault_of(alloc, whole.as_str()),
+            Some(fault(*wrong, place)),
+            "{text}"
+        );
+    }
+    Ok(())
+}
+
+/// Each text has the fault of its labels and flows that stands beside it.
+fn have_lattice_faults(
+    rt: &impl Abort,
+    alloc: Global,
+    cases: &[(&'static str, LatticeError)],
+) -> Result<(), Fail> {
+    for (text, want) in cases {
+        assert_eq!(rt;
+            fault_of(alloc, text),
+            Some(PolicyError::Lattice(*want)),
+            "{text}"
+        );
+    }
+    Ok(())
 }
 
 /// Each text, after the same head, has the fault that stands beside it, in the same part.

@@ -1,13 +1,14 @@
 //! Every fault of every step, with its part, row and item.
 
-use super::{Case, HEAD, Wrong, fault_of, have_their_faults};
+use super::{Case, HEAD, Wrong, fault_of, have_lattice_faults, have_their_faults};
 use crate::{Part, PolicyError, read_policy};
 use label_lattice::{Label, LatticeError};
 use std::test::Fail;
 
-static NO_DOCUMENTS: [&str; 6] = [
+static NO_DOCUMENTS: [&str; 7] = [
     "labels = ",
     "labels = ['low'",
+    "gate = 1\nlabels =",
     "labels = ['low']\nlabels = ['low']",
     "labels = ['low']\n[clients.ann]\nclearance = 'low'\n[clients.ann]\nclearance = 'low'",
     "labels = ['low']\n[limits.low]\nbytes = 9223372036854775808",
@@ -28,9 +29,9 @@ static ROOT: [Case; 8] = [
         0,
     ),
     (
-        "zoo = 1\nlabels = ['low']\nflows = []\nlimits = {}\nfunctions = {}\nchannels = {}\nclients = {}",
+        "zoo = 1\nlabels = ['low']\nflows = []\nlimits = {}\nfunctions = {}\nchannels = {}\nclients = {}\ngates = {}",
         Wrong::Extra,
-        7,
+        8,
         0,
     ),
 ];
@@ -282,7 +283,7 @@ fn a_text_that_is_no_document_is_refused(rt: HostRuntime) -> Result<(), Fail> {
             "{text}"
         );
     }
-    let no_text = b"labels = ['low'] # \xff";
+    let no_text = b"gate = 1 # \xff";
     assert_eq!(rt;
         read_policy(rt.alloc(), no_text).err(),
         Some(PolicyError::Toml)
@@ -342,14 +343,7 @@ fn faults_of_the_lattice_with_their_positions(rt: HostRuntime) -> Result<(), Fai
             LatticeError::NoMeet(label(0), label(1)),
         ),
     ];
-    for (text, want) in cases {
-        assert_eq!(rt;
-            fault_of(rt.alloc(), text),
-            Some(PolicyError::Lattice(want)),
-            "{text}"
-        );
-    }
-    Ok(())
+    have_lattice_faults(&rt, rt.alloc(), &cases)
 }
 
 #[test]

@@ -1,14 +1,11 @@
 //! Faults that stand together: the first in the order of the steps is the answer.
 
-use super::{HEAD, Wrong, fault, fault_of, have_their_faults};
-use crate::{Part, Place, PolicyError, read_policy};
+use super::{Case, HEAD, Placed, Wrong, have_first_faults, have_lattice_faults, have_their_faults};
+use crate::Part;
 use label_lattice::{Label, LatticeError};
 use std::test::Fail;
 
-/// A text with two faults, and the one that is answered.
-type Pair = (&'static str, Wrong, Part, u64, u32);
-
-static STEPS: [Pair; 14] = [
+static STEPS: [Placed; 15] = [
     ("gate = 1", Wrong::Extra, Part::Root, 1, 0),
     ("labels = 1\ngate = 1", Wrong::Extra, Part::Root, 1, 0),
     ("flows = 1", Wrong::Missing, Part::Labels, 0, 0),
@@ -83,9 +80,16 @@ static STEPS: [Pair; 14] = [
         0,
         0,
     ),
+    (
+        "labels = ['low']\ngates = 1\nclients = 1",
+        Wrong::Kind,
+        Part::Clients,
+        0,
+        0,
+    ),
 ];
 
-static LIMITS: [super::Case; 9] = [
+static LIMITS: [Case; 9] = [
     ("limits = { mid = 1 }", Wrong::UnknownLabel, 1, 0),
     ("limits = { low = 1, mid = {} }", Wrong::Kind, 1, 0),
     (
@@ -122,14 +126,14 @@ static LIMITS: [super::Case; 9] = [
     ),
 ];
 
-static FUNCTIONS: [super::Case; 4] = [
+static FUNCTIONS: [Case; 4] = [
     ("functions = { Hello = 1 }", Wrong::BadName, 1, 0),
     ("functions = { Hello = '' }", Wrong::BadName, 1, 0),
     ("functions = { a = 1, 'b c' = 'e' }", Wrong::Kind, 1, 0),
     ("functions = { a = '', b = 1 }", Wrong::OutOfRange, 1, 0),
 ];
 
-static CHANNELS: [super::Case; 9] = [
+static CHANNELS: [Case; 9] = [
     ("channels = { Mail = 1 }", Wrong::BadName, 1, 0),
     ("[channels.Mail]\ngate = 1", Wrong::BadName, 1, 0),
     ("channels = { a = 1, 'b c' = 1 }", Wrong::Kind, 1, 0),
@@ -151,7 +155,7 @@ static CHANNELS: [super::Case; 9] = [
     ),
 ];
 
-static CLIENTS: [super::Case; 5] = [
+static CLIENTS: [Case; 5] = [
     ("clients = { Ann = 1 }", Wrong::BadName, 1, 0),
     ("[clients.Ann]\ngate = 1", Wrong::BadName, 1, 0),
     ("[clients.zed]\ngate = 1", Wrong::Extra, 1, 0),
@@ -170,33 +174,8 @@ static CLIENTS: [super::Case; 5] = [
 ];
 
 #[test]
-fn a_text_that_is_no_document_comes_before_its_keys(rt: HostRuntime) {
-    let no_text = b"gate = 1 # \xff";
-    assert_eq!(rt;
-        read_policy(rt.alloc(), no_text).err(),
-        Some(PolicyError::Toml)
-    );
-    assert_eq!(rt;
-        fault_of(rt.alloc(), "gate = 1\nlabels ="),
-        Some(PolicyError::Toml)
-    );
-}
-
-#[test]
 fn the_steps_come_in_their_order(rt: HostRuntime) -> Result<(), Fail> {
-    for (text, wrong, part, row, item) in STEPS.iter() {
-        let place = Place {
-            part: *part,
-            row: *row,
-            item: *item,
-        };
-        assert_eq!(rt;
-            fault_of(rt.alloc(), text),
-            Some(fault(*wrong, place)),
-            "{text}"
-        );
-    }
-    Ok(())
+    have_first_faults(&rt, rt.alloc(), "", &STEPS)
 }
 
 #[test]
@@ -234,14 +213,7 @@ fn the_lattice_comes_after_the_flows_and_before_the_limits(rt: HostRuntime) -> R
             LatticeError::NoJoin(label(0), label(1)),
         ),
     ];
-    for (text, want) in cases {
-        assert_eq!(rt;
-            fault_of(rt.alloc(), text),
-            Some(PolicyError::Lattice(want)),
-            "{text}"
-        );
-    }
-    Ok(())
+    have_lattice_faults(&rt, rt.alloc(), &cases)
 }
 
 #[test]

@@ -1,6 +1,6 @@
 //! The ends of ranges: limits, and the lengths of names and of file names.
 
-use super::{fault_of, have_their_faults};
+use super::{Wrong, fault, fault_of};
 use crate::{Part, Place, PolicyError, read_policy};
 use label_limits::Limits;
 use std::alloc::Global;
@@ -91,60 +91,45 @@ fn repeated(alloc: Global, text: &str, count: usize) -> Result<String, Fail> {
     Ok(all)
 }
 
-/// The fault of a policy of one function with this name and this file.
-fn function_fault(alloc: Global, name: &str, file: &str) -> Result<Option<PolicyError>, Fail> {
-    let text = format!(in alloc; "labels = ['low']\nfunctions.{name} = '{file}'")?;
-    Ok(fault_of(alloc, text.as_str()))
-}
+/// A name of a text so many times, a file name of another, and what is wrong with the function.
+static LENGTHS: [(&str, usize, &str, usize, Option<Wrong>); 11] = [
+    ("n", 64, "e", 1, None),
+    ("n", 65, "e", 1, Some(Wrong::BadName)),
+    ("''", 1, "e", 1, Some(Wrong::BadName)),
+    ("0", 1, "e", 1, None),
+    ("'a_b-c.9'", 1, "e", 1, None),
+    ("hello", 1, "e", 0, Some(Wrong::OutOfRange)),
+    ("hello", 1, "e", 1, None),
+    ("hello", 1, "e", 255, None),
+    ("hello", 1, "e", 256, Some(Wrong::OutOfRange)),
+    ("hello", 1, "\u{e9}", 127, None),
+    ("hello", 1, "\u{e9}", 128, Some(Wrong::OutOfRange)),
+];
 
-#[test]
-fn a_file_name_has_1_to_255_bytes(rt: HostRuntime) -> Result<(), Fail> {
-    let outside = Some(PolicyError::OutOfRange(Place {
+/// The fault of a function.
+fn function_fault(wrong: Option<Wrong>) -> Option<PolicyError> {
+    let place = Place {
         part: Part::Functions,
         row: 1,
         item: 0,
-    }));
-    assert_eq!(rt; function_fault(rt.alloc(), "hello", "")?, outside);
-    assert_eq!(rt; function_fault(rt.alloc(), "hello", "e")?, None);
-    let longest = repeated(rt.alloc(), "e", 255)?;
-    assert_eq!(rt;
-        function_fault(rt.alloc(), "hello", longest.as_str())?,
-        None
-    );
-    let too_long = repeated(rt.alloc(), "e", 256)?;
-    assert_eq!(rt;
-        function_fault(rt.alloc(), "hello", too_long.as_str())?,
-        outside
-    );
-    let two_bytes_each = repeated(rt.alloc(), "\u{e9}", 127)?;
-    assert_eq!(rt;
-        function_fault(rt.alloc(), "hello", two_bytes_each.as_str())?,
-        None
-    );
-    let too_many_bytes = repeated(rt.alloc(), "\u{e9}", 128)?;
-    assert_eq!(rt;
-        function_fault(rt.alloc(), "hello", too_many_bytes.as_str())?,
-        outside
-    );
-    Ok(())
+    };
+    match wrong {
+        Some(wrong) => Some(fault(wrong, place)),
+        None => None,
+    }
 }
 
 #[test]
-fn a_name_has_1_to_64_bytes(rt: HostRuntime) -> Result<(), Fail> {
-    let bad = PolicyError::BadName(Place {
-        part: Part::Functions,
-        row: 1,
-        item: 0,
-    });
-    let longest = repeated(rt.alloc(), "n", 64)?;
-    assert_eq!(rt; function_fault(rt.alloc(), longest.as_str(), "e")?, None);
-    let too_long = repeated(rt.alloc(), "n", 65)?;
-    assert_eq!(rt;
-        function_fault(rt.alloc(), too_long.as_str(), "e")?,
-        Some(bad)
-    );
-    assert_eq!(rt; function_fault(rt.alloc(), "''", "e")?, Some(bad));
-    assert_eq!(rt; function_fault(rt.alloc(), "0", "e")?, None);
-    assert_eq!(rt; function_fault(rt.alloc(), "'a_b-c.9'", "e")?, None);
+fn names_have_1_to_64_bytes_and_file_names_1_to_255(rt: HostRuntime) -> Result<(), Fail> {
+    for (name, names, file, files, wrong) in &LENGTHS {
+        let name = repeated(rt.alloc(), name, *names)?;
+        let file = repeated(rt.alloc(), file, *files)?;
+        let text = format!(in rt.alloc(); "labels = ['low']\nfunctions.{name} = '{file}'")?;
+        assert_eq!(rt;
+            fault_of(rt.alloc(), text.as_str()),
+            function_fault(*wrong),
+            "{text}"
+        );
+    }
     Ok(())
 }

@@ -1,7 +1,7 @@
 //! Policies that are read, reader by reader.
 
-use super::{DIAMOND, fault_of};
-use crate::{Part, Place, Policy, PolicyError, read_policy};
+use super::{DIAMOND, Placed, Wrong, have_first_faults};
+use crate::{Part, Policy, read_policy};
 use label_lattice::Label;
 use label_limits::Limits;
 use labelled_channel::Delivery;
@@ -185,7 +185,7 @@ fn limits_that_are_written_take_the_place_of_the_usual_ones(rt: HostRuntime) -> 
 fn parts_that_are_not_written_are_empty(rt: HostRuntime) -> Result<(), Fail> {
     let rests = [
         "",
-        "limits = {}\nfunctions = {}\nchannels = {}\nclients = {}",
+        "limits = {}\nfunctions = {}\nchannels = {}\nclients = {}\ngates = {}",
         "[functions]",
     ];
     for rest in rests {
@@ -193,6 +193,11 @@ fn parts_that_are_not_written_are_empty(rt: HostRuntime) -> Result<(), Fail> {
         assert_eq!(rt; policy.functions().len(), 0);
         assert_eq!(rt; policy.clients().len(), 0);
         assert_eq!(rt; policy.channels().count(), 0);
+        assert!(rt;
+            !policy
+                .gates()
+                .has(Label::numbered(0), Label::numbered(0), 0)
+        );
         assert_eq!(rt; policy.limits(), [USUAL, USUAL, USUAL, USUAL].as_slice());
     }
     Ok(())
@@ -217,34 +222,26 @@ a10 = { label = 'low', function = 'f10' }
     Ok(())
 }
 
+/// Policies with one fault each.
+static FAULTS: [Placed; 3] = [
+    ("gate = 1\n", Wrong::Extra, Part::Root, 2, 0),
+    (
+        "[limits.low]\nqueue = 0\n",
+        Wrong::OutOfRange,
+        Part::Limits,
+        1,
+        4,
+    ),
+    (
+        "[clients]\nzed = {}\nann = { clearance = 'low' }\nsam = { clearance = 'top' }\nbo = { clearance = 'low' }\n",
+        Wrong::Missing,
+        Part::Clients,
+        4,
+        1,
+    ),
+];
+
 #[test]
 fn whole_policies_with_one_fault_are_refused(rt: HostRuntime) -> Result<(), Fail> {
-    let place = |part, row, item| Place { part, row, item };
-    let cases = [
-        (
-            "gate = 1\n",
-            "",
-            PolicyError::Extra(place(Part::Root, 2, 0)),
-        ),
-        (
-            "",
-            "[limits.low]\nqueue = 0\n",
-            PolicyError::OutOfRange(place(Part::Limits, 1, 4)),
-        ),
-        (
-            "",
-            "[clients.zed]\n",
-            PolicyError::Missing(place(Part::Clients, 4, 1)),
-        ),
-    ];
-    for (before, after, want) in cases {
-        let tables = if before.is_empty() { TABLES } else { "" };
-        let text = format!(in rt.alloc(); "{before}{DIAMOND}{tables}{after}")?;
-        assert_eq!(rt;
-            fault_of(rt.alloc(), text.as_str()),
-            Some(want),
-            "{before}{after}"
-        );
-    }
-    Ok(())
+    have_first_faults(&rt, rt.alloc(), DIAMOND, &FAULTS)
 }

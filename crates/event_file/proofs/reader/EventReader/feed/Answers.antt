@@ -20,6 +20,7 @@ invariant_of-self c =
     elim c.if-self-len.branch [ then-self-len w ↦ w.self-is ∙ w.let_go.ensures | else-self-len w ↦ w.self-is ] in
     let fed : r.fed ≡ c.args.self.now.fed = ap (λ (reader : Reader). reader.fed) (c.self-2.view_is ∙ same) in
     record {
+      numbered = c.self-2.invariant.numbered;
       begins = omega (arith, longer, c.self-2.invariant.begins);
       no_end = omega (arith, place, farther is_end (drop r.start r.buffer.items) c.args.piece.now, c.self-2.invariant.no_end);
       counted = omega (arith, longer, here, c.self-2.invariant.counted);

@@ -1,7 +1,8 @@
 use Rattle.std.proofs.Common.{◌≡◌, ℕ, ◌+◌, ◌<◌, List, ◌∷◌, length, take, drop, sym, ap, subst, arith, length-drop}
 use Rattle.event_file.specs.Lines.{lines_of}
 use Rattle.event_file.specs.Reader.{Reader, IsOneLine}
-use Rattle.event_file.proofs.Split.{found_next, missing_next, first_part, whole}
+use Rattle.event_file.proofs.Split.{found_next, missing_next}
+use Rattle.trapeze_io.proofs.Splits.{first_part, whole}
 use Rattle.event_file.proofs.reader.EventReader.line_end.Goals as goal
 
 pub invariant_of-self : goal.invariant_of-self
@@ -9,6 +10,7 @@ invariant_of-self c =
     let r = c.self.inside in
     let f = found_next _ r.buffer.items c.deref.result.now r.start r.searched c.in-Some.at c.deref.ensures.value c.self.invariant.no_end (sym c.in-Some.ensures) in
     record {
+      numbered = c.self.invariant.numbered;
       begins = omega (arith, f.0);
       no_end = omega (arith, f.1);
       counted = c.self.invariant.counted;
@@ -21,6 +23,7 @@ invariant_of-self-in-None c =
     let m = missing_next _ r.buffer.items c.deref.result.now r.start r.searched c.deref.ensures.value c.self.invariant.no_end (sym c.in-None.ensures) in
     let e = ap length c.deref.ensures.value in
     record {
+      numbered = c.self.invariant.numbered;
       begins = omega (arith, e, c.self.invariant.begins);
       no_end = omega (arith, e, m, length-drop r.start r.buffer.items);
       counted = c.self.invariant.counted;

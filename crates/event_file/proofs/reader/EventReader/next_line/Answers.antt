@@ -2,8 +2,9 @@ use Rattle.std.proofs.Common.{◌+◌, length, ap, ◌∙◌, arith, length-drop
 use Rattle.event_file.specs.Reader.{Reader}
 use Rattle.event_file.specs.Calls.{Advances}
 use Rattle.event_file.specs.declared.next.Next.TheVariants as next
-use Rattle.event_file.specs.declared.fault.LineFault.TheVariants.{Word}
+use Rattle.event_file.specs.declared.fault.LineFault.TheVariants.{LineTooLong}
 use Rattle.event_file.proofs.Go.{continues, skips_with}
+use Rattle.event_file.proofs.Hearing.{hears, skips_heard}
 use Rattle.event_file.proofs.Due.{is_due}
 use Rattle.event_file.proofs.Steps.{skips_more, skips_same, first_same, one_line_same, within_same, answered, at_first, advances_entry, advances_bad, advances_long, advances_none, advances_waiting, short_one}
 use Rattle.event_file.proofs.reader.EventReader.next_line.Goals as goal
@@ -89,7 +90,7 @@ long c =
     let mid = c.line_end.new.self in
     let same = c.line_end.ensures.same in
     let stopped = c.stop-then-held-gt-LONGEST_LINE in
-    answered c.args.self.now stopped.new.self (next.Bad (at_first mid Word)) stopped.result stopped.ensures.bad
+    answered c.args.self.now stopped.new.self (next.Bad (at_first mid LineTooLong)) stopped.result stopped.ensures.bad
     (advances_long c.args.self.now mid stopped.new.self (skips_same _ _ mid same c.lines.invariant.skips)
     (one_line_same c.lines.self mid same c.in_default-line_end.ensures.end) (omega arith) stopped.ensures.same)
 
@@ -115,4 +116,23 @@ returns-clause-due c =
 pub returns-clause-entries : goal.returns-clause-entries
 returns-clause-entries c =
     λ none more. skips_with c.args.self.now c.line_end.new.self more
+    (skips_same _ _ c.line_end.new.self c.line_end.ensures.same c.lines.invariant.skips)
+
+pub returns-in-Ok-Some-clause-heard : goal.returns-in-Ok-Some-clause-heard
+returns-in-Ok-Some-clause-heard c =
+    λ none more. hears c.args.self.now c.use_first-in-Ok-Some.new.self (next.Entry c.in-Ok-Some.entry) more (given c)
+
+pub returns-in-Err-Fault-clause-heard : goal.returns-in-Err-Fault-clause-heard
+returns-in-Err-Fault-clause-heard c = λ none more. hears c.args.self.now c.stop.new.self c.stop.result more (faulty c)
+
+pub returns-in-Err-NoMemory-clause-heard : goal.returns-in-Err-NoMemory-clause-heard
+returns-in-Err-NoMemory-clause-heard c = λ none more. hears c.args.self.now c.line_end.new.self next.NoMemory more (waiting c)
+
+pub returns-then-held-gt-LONGEST_LINE-clause-heard : goal.returns-then-held-gt-LONGEST_LINE-clause-heard
+returns-then-held-gt-LONGEST_LINE-clause-heard c =
+    λ none more. hears c.args.self.now c.stop-then-held-gt-LONGEST_LINE.new.self c.stop-then-held-gt-LONGEST_LINE.result more (long c)
+
+pub returns-clause-heard : goal.returns-clause-heard
+returns-clause-heard c =
+    λ none more. skips_heard c.args.self.now c.line_end.new.self more
     (skips_same _ _ c.line_end.new.self c.line_end.ensures.same c.lines.invariant.skips)
