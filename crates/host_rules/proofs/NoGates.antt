@@ -1,16 +1,18 @@
 -- Without gates nothing is released, and the view is what is visible.
 use Rattle.std.proofs.Common.{◌≡◌, ℕ, zero, suc, ◌+◌, true, false, cond, List, [], ◌∷◌, ◌++◌, Option, Some, None, Result, Ok, Err, length, take, refl, sym, ◌∙◌, ap, subst}
 use Rattle.std.specs.Prelude.{◌==◌, nat_le, ok_or, slice_index}
+use Rattle.trapeze_io.specs.Answers.{◌>>=◌}
 use Rattle.facet_list.specs.Store.{Write, written}
 use Rattle.trapeze_lines.specs.declared.line.Line.{Line}
 use Rattle.trapeze_lines.specs.declared.outcome.Cause.{Cause}
 use Rattle.trapeze_lines.specs.declared.outcome.Cause.TheVariants.{Unknown}
-use Rattle.host_rules.specs.Events.{Event, Put, Ask, Turn}
+use Rattle.event_file.specs.declared.entry.Event.{Event}
+use Rattle.event_file.specs.declared.entry.Event.TheVariants.{Put, Ask, Turn}
 use Rattle.wasm_ast.specs.declared.hosts.HostName.{HostName}
 use Rattle.wasm_ast.specs.declared.hosts.HostName.TheVariants as host
 use Rattle.wasm_ast.specs.Memory.{memory_write}
 use Rattle.host_rules.specs.Guests.{OneUnit, Goes, Calls, Done, Traps, Guest}
-use Rattle.host_rules.specs.Ranges.{◌>>=◌, key_at, name_at, bytes_at}
+use Rattle.host_rules.specs.Ranges.{key_at, name_at, bytes_at}
 use Rattle.host_rules.specs.Rules.{Rules, IsOrdered, HasNoGates, limits_at, label_named, channel_named, gate_named}
 use Rattle.host_rules.specs.States.{Activation, fresh, State, leave, count_turn, count_request, Happens, Moved, start}
 use Rattle.host_rules.specs.Stores.{read}

@@ -3,7 +3,7 @@ use Rattle.std.proofs.Common.{◌≡◌, ℕ, zero, suc, ◌+◌, List, [], ◌�
 use Rattle.std.specs.Prelude.{◌==◌, ◌&&◌, not, nat_lt, nat_le}
 use Rattle.facet_list.specs.Store.{Write, written}
 use Rattle.trapeze_lines.specs.declared.outcome.Cause.TheVariants.{Pages}
-use Rattle.host_rules.specs.Events.{Put, Ask, Turn}
+use Rattle.event_file.specs.declared.entry.Event.TheVariants.{Put, Ask, Turn}
 use Rattle.host_rules.specs.Guests.{OneUnit, Goes, Calls, Done, Traps, Guest}
 use Rattle.host_rules.specs.Rules.{Rules, limits_at, clearance}
 use Rattle.host_rules.specs.States.{Serving, Activation, fresh, State, leave, set_at, count_turn, count_request, Item, Happens, Out, Moved}

@@ -15,7 +15,7 @@ flows_to_join n f reflexive a b = found (find (is_join n f a b) (labels n)) refl
     found (Some j) e = (join_found n f a b j e).1.left
 
 pub are_ordered : AreOrdered
-are_ordered parts gates sound = record {
+are_ordered parts sound = record {
   reflexive = sound.lattice.reflexive;
   transitive = sound.lattice.transitive;
   upper = flows_to_join (count parts.lattice) (flows parts.lattice) sound.lattice.reflexive;

@@ -4,7 +4,7 @@ use Rattle.std.proofs.lemmas.List.Elements.{filter-append}
 use Rattle.facet_list.specs.Store.{Write}
 use Rattle.facet_list.specs.Rows.{rows_of}
 use Rattle.trapeze_lines.specs.declared.line.Line.{Line}
-use Rattle.host_rules.specs.Events.{Event}
+use Rattle.event_file.specs.declared.entry.Event.{Event}
 use Rattle.trapeze_lines.specs.Lines.{is_of_run, run_kinds}
 use Rattle.host_rules.specs.Guests.{Guest}
 use Rattle.host_rules.specs.Rules.{Rules, IsOrdered}

@@ -8,7 +8,7 @@ use Rattle.trapeze_lines.specs.declared.outcome.Cause.TheVariants.{Pages, Fuel}
 use Rattle.trapeze_lines.specs.declared.outcome.Outcome.{Outcome}
 use Rattle.trapeze_lines.specs.declared.outcome.Outcome.TheVariants as outcome
 use Rattle.trapeze_lines.specs.Lines.{line_at}
-use Rattle.host_rules.specs.Events.{Put, Ask, Turn}
+use Rattle.event_file.specs.declared.entry.Event.TheVariants.{Put, Ask, Turn}
 use Rattle.facet_list.specs.Store.{written}
 use Rattle.host_rules.specs.Guests.{Guest}
 use Rattle.host_rules.specs.Rules.{Rules, IsOrdered, limits_at, function_name}

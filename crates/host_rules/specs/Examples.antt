@@ -1,6 +1,6 @@
 -- A small policy, and a guest that follows a script, for the worked examples.
 use Rattle.std.specs.Prelude.{ℕ, Bool, ◌==◌, ◌||◌, List, [], ◌∷◌, ◌++◌, Some}
-use Rattle.std.specs.Prelude.{None, slice_index_or, option_to_list, codes, if◌then◌else◌}
+use Rattle.std.specs.Prelude.{Option, None, slice_index_or, option_to_list, codes, if◌then◌else◌}
 use Rattle.label_limits.specs.declared.limits.Limits.{Limits}
 use Rattle.gate_rules.specs.declared.filter.Filter.TheVariants as filter
 use Rattle.gate_rules.specs.declared.gate.Gate.{Gate}
@@ -12,12 +12,13 @@ use Rattle.trapeze_lines.specs.declared.outcome.Outcome.TheVariants as outcome
 use Rattle.trapeze_lines.specs.Lines.{line_at}
 use Rattle.wasm_ast.specs.declared.hosts.HostName.{HostName}
 use Rattle.wasm_ast.specs.declared.hosts.HostName.TheVariants as host
-use Rattle.host_rules.specs.Events.{Event, Put, Ask, Turn}
+use Rattle.event_file.specs.declared.entry.Event.{Event}
+use Rattle.event_file.specs.declared.entry.Event.TheVariants.{Put, Ask, Turn}
 use Rattle.host_rules.specs.Guests.{Guest, OneUnit, Goes, Calls, Done}
 use Rattle.host_rules.specs.Rules.{Rules, label_of}
 use Rattle.host_rules.specs.Views.{view}
 use Rattle.host_rules.specs.States.{Item, start}
-use Rattle.host_rules.specs.Play.{trace, items_of}
+use Rattle.host_rules.specs.Play.{trace, whole, items_of}
 
 -- one unit of a script: it works, it goes round for ever, or it asks the host, with the last answer behind these operands
 pub data Act : Type 0 where
@@ -106,6 +107,14 @@ send_acts = Asks host.Send (0 ∷ 1 ∷ 7 ∷ 2 ∷ []) ∷ []
 abbrev pub raise_acts : List Act
 raise_acts = Asks host.Raise (1 ∷ 5 ∷ []) ∷ Works ∷ []
 
+-- it works for two units, raises itself to alice in the third, and then replies with the two bytes
+abbrev pub climb_acts : List Act
+climb_acts = Works ∷ Works ∷ Asks host.Raise (1 ∷ 5 ∷ []) ∷ Asks host.Reply (7 ∷ 2 ∷ []) ∷ []
+
+-- it works for two units, and is done in the third
+abbrev pub work_acts : List Act
+work_acts = Works ∷ Works ∷ []
+
 -- it replies with the two bytes
 abbrev pub reply_acts : List Act
 reply_acts = Asks host.Reply (7 ∷ 2 ∷ []) ∷ []
@@ -121,11 +130,19 @@ put_at l value = Put (label_of l) (codes "g") (Some value)
 abbrev pub clear_at : ℕ → Event
 clear_at l = Put (label_of l) (codes "g") None
 
+-- a put of another key
+abbrev pub put_key : ℕ → List ℕ → List ℕ → Event
+put_key l key value = Put (label_of l) key (Some value)
+
 abbrev pub ask_at : ℕ → Event
 ask_at l = Ask (label_of l) 0 0 (codes "r") (codes "in")
 
 abbrev pub turn_at : ℕ → Event
 turn_at l = Turn (label_of l)
+
+-- an ask of ann for the second function
+abbrev pub ask_second_at : ℕ → Event
+ask_second_at l = Ask (label_of l) 0 1 (codes "r") (codes "in")
 
 -- the guest whose first and second function follow these acts
 abbrev pub guest : List Act → List Act → Guest Script
@@ -134,6 +151,14 @@ guest first second = scripts (follows first ∷ follows second ∷ [])
 -- what is told of events under these limits
 abbrev pub told_of : Limits → List Act → List Act → List Event → List Line
 told_of limits first second events = trace (village limits) (guest first second) (start []) (items_of events)
+
+-- what is told of items, which may be releases
+abbrev pub told_of_items : List Act → List Act → List Item → List Line
+told_of_items first second items = trace (village roomy) (guest first second) (start []) items
+
+-- what is told of events, and then of the facets in the end
+abbrev pub whole_of : List Act → List Event → List Line
+whole_of first events = whole (village roomy) (guest first []) (start []) (items_of events)
 
 -- how the first turn of a function with one act ends
 abbrev pub ends_of : List Line → Outcome
@@ -170,6 +195,13 @@ turned l number how = line_at l (kind.Turn number (codes "f") (Some (codes "r"))
 abbrev pub unasked : ℕ → ℕ → Outcome → Line
 unasked l number how = line_at l (kind.Turn number (codes "g") None how)
 
+-- the second function arrived for ann, and its turn for her
+abbrev pub started_second : ℕ → ℕ → Line
+started_second l from = line_at l (kind.Start (label_of from) (codes "g") (Some (codes "r")))
+
+abbrev pub turned_second : ℕ → ℕ → Outcome → Line
+turned_second l number how = line_at l (kind.Turn number (codes "g") (Some (codes "r")) how)
+
 -- the two bytes were sent into the channel
 abbrev pub sent : ℕ → Line
 sent l = line_at l (kind.Send (codes "c") (codes "HI"))
@@ -180,3 +212,7 @@ answered l bytes = line_at l (kind.Answer (codes "ann") (codes "r") bytes)
 
 abbrev pub replied : List ℕ → Line
 replied bytes = line_at alice (kind.Reply (codes "ann") (codes "r") bytes)
+
+-- a live facet in the end
+abbrev pub facet_of : ℕ → List ℕ → Option (List ℕ) → Line
+facet_of l key value = line_at l (kind.Facet key value)

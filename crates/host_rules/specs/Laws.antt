@@ -2,7 +2,7 @@
 use Rattle.std.specs.Prelude.{◌≡◌, ◌≤◌, ℕ, ◌+◌, true, false, List, [], ◌++◌}
 use Rattle.facet_list.specs.Store.{Write}
 use Rattle.trapeze_lines.specs.declared.line.Line.{Line}
-use Rattle.host_rules.specs.Events.{Event}
+use Rattle.event_file.specs.declared.entry.Event.{Event}
 use Rattle.trapeze_lines.specs.Lines.{run_kinds}
 use Rattle.host_rules.specs.Guests.{Asked, Guest}
 use Rattle.host_rules.specs.Rules.{Rules}

@@ -1,4 +1,3 @@
-pub mod Events
 pub mod Rules
 pub mod Policies
 pub mod States

@@ -8,7 +8,7 @@ use Rattle.wasm_ast.specs.declared.imports.ImportKind.TheVariants as import
 use Rattle.wasm_ast.specs.declared.trees.Instr.{Instr}
 use Rattle.wasm_ast.specs.declared.trees.Instr.TheVariants as instr
 use Rattle.wasm_ast.specs.declared.modules.Module.{Module}
-use Rattle.host_rules.specs.Events.{Event}
+use Rattle.event_file.specs.declared.entry.Event.{Event}
 use Rattle.host_rules.specs.Modules.{guest_of}
 use Rattle.host_rules.specs.States.{start}
 use Rattle.host_rules.specs.Play.{trace, items_of}

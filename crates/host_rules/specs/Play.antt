@@ -1,6 +1,7 @@
 -- Events and releases one after the other, from any state.
 use Rattle.std.specs.Prelude.{ℕ, ◌+◌, List, [], ◌∷◌, ◌++◌, Some, map}
-use Rattle.host_rules.specs.Events.{Event, Put, Ask, Turn}
+use Rattle.event_file.specs.declared.entry.Event.{Event}
+use Rattle.event_file.specs.declared.entry.Event.TheVariants.{Put, Ask, Turn}
 use Rattle.trapeze_lines.specs.declared.line.Line.{Line}
 use Rattle.facet_list.specs.Store.{written}
 use Rattle.host_rules.specs.Guests.{Guest}

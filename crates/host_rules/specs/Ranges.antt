@@ -1,14 +1,8 @@
 -- The ranges of a memory that a host call names.
-use Rattle.std.specs.Prelude.{ℕ, nat_le, List, Result, Ok, Err, ok_or, if◌then◌else◌}
+use Rattle.std.specs.Prelude.{ℕ, nat_le, List, Result, Err, ok_or, if◌then◌else◌}
 use Rattle.trapeze_lines.specs.declared.outcome.Cause.{Cause}
 use Rattle.trapeze_lines.specs.declared.outcome.Cause.TheVariants.{Memory, Size}
 use Rattle.wasm_ast.specs.Memory.{memory_read}
-
--- what is tested gives a value, or traps by its first fault
-infixl 10 ◌>>=◌
-abbrev pub ◌>>=◌ : {X Y : Type 0} → Result X Cause → (X → Result Y Cause) → Result Y Cause
-Ok x >>= next = next x
-Err cause >>= next = Err cause
 
 -- a source: the bytes of a range; first its size limit is tested, then its bounds
 abbrev pub source : ℕ → List ℕ → ℕ → ℕ → Result (List ℕ) Cause

@@ -2,7 +2,7 @@
 use Rattle.std.specs.Prelude.{◌≡◌, ℕ, ◌+◌, Bool, false, ◌==◌, ◌&&◌, ◌||◌, List, [], ◌∷◌, ◌++◌}
 use Rattle.std.specs.Prelude.{Option, Some, None, Contains, drop, option_map, if◌then◌else◌}
 use Rattle.facet_list.specs.Store.{Write}
-use Rattle.host_rules.specs.Events.{Event}
+use Rattle.event_file.specs.declared.entry.Event.{Event}
 use Rattle.gate_rules.specs.declared.gate.Gate.{Gate}
 use Rattle.trapeze_lines.specs.declared.line.Line.{Line}
 

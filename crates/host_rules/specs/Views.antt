@@ -3,7 +3,8 @@ use Rattle.std.specs.Prelude.{◌≡◌, ℕ, true, List, [], ◌∷◌, ◌++�
 use Rattle.facet_list.specs.Store.{Write}
 use Rattle.facet_list.specs.Rows.{rows_of}
 use Rattle.facet_list.specs.Views as views
-use Rattle.host_rules.specs.Events.{Event, Put, Ask, Turn}
+use Rattle.event_file.specs.declared.entry.Event.{Event}
+use Rattle.event_file.specs.declared.entry.Event.TheVariants.{Put, Ask, Turn}
 use Rattle.trapeze_lines.specs.declared.line.Line.{Line}
 use Rattle.trapeze_lines.specs.Lines as lines
 use Rattle.host_rules.specs.Guests.{Guest}

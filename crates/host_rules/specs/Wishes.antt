@@ -1,5 +1,6 @@
 -- What a host call asks for: its sources from the left, and then its name. No store is looked at.
 use Rattle.std.specs.Prelude.{ℕ, List, Option, Some, None, Result, Ok, ok_or, slice_index}
+use Rattle.trapeze_io.specs.Answers.{◌>>=◌}
 use Rattle.labelled_channel.specs.declared.channels.Channel.{Channel}
 use Rattle.wasm_ast.specs.declared.hosts.HostName.{HostName}
 use Rattle.wasm_ast.specs.declared.hosts.HostName.TheVariants as host
@@ -7,7 +8,7 @@ use Rattle.gate_rules.specs.declared.gate.Gate.{Gate}
 use Rattle.trapeze_lines.specs.declared.outcome.Cause.{Cause}
 use Rattle.trapeze_lines.specs.declared.outcome.Cause.TheVariants.{Unknown}
 use Rattle.host_rules.specs.Guests.{Asked}
-use Rattle.host_rules.specs.Ranges.{◌>>=◌, key_at, name_at, bytes_at}
+use Rattle.host_rules.specs.Ranges.{key_at, name_at, bytes_at}
 use Rattle.host_rules.specs.Rules.{Rules, label_named, channel_named, gate_named}
 
 pub data Wish : Type 0 where

@@ -13,7 +13,9 @@ ghost use Rattle.host_rules.specs.Examples.{Works, Spins, Asks, village, roomy, 
 ghost use Rattle.host_rules.specs.Examples.{alice, bob, top, put_at, clear_at, ask_at, turn_at};
 ghost use Rattle.host_rules.specs.Examples.{read_acts, raise_acts, release_acts, send_acts, reply_acts, told_of, trap_of, low_view};
 ghost use Rattle.host_rules.specs.Nods.{told_of_nods};
+ghost use Rattle.host_rules.specs.Examples.{put_key, ask_second_at, climb_acts, work_acts, told_of_items, whole_of};
 ghost use Rattle.host_rules.specs.Examples.{wrote, started, let_in_at, turned, unasked, sent, answered, replied};
+ghost use Rattle.host_rules.specs.Examples.{started_second, turned_second, facet_of};
 
 /// A read gives the latest visible facet: bob's later put is not visible at alice, and low's is.
 pub fn the_latest_visible_facet_is_read()
@@ -46,6 +48,14 @@ pub fn a_message_serves_the_request_of_its_sender()
         ≡ started low low ∷ sent low ∷ line_at low (kind.Start (record { number = low }) (codes "g") (Some (codes "r")))
         ∷ turned low 1 outcome.Ended ∷ answered low (codes "HI") ∷ replied (codes "HI")
         ∷ line_at low (kind.Turn 2 (codes "g") (Some (codes "r")) outcome.Ended) ∷ [] }
+{}
+
+/// A message is the input of what it starts, which copies it and replies with it.
+pub fn a_message_is_the_input_of_what_it_starts()
+    ensures { told_of roomy (Asks host.Send (0 ∷ 1 ∷ 1 ∷ 5 ∷ []) ∷ [])
+        (Asks host.Input (4 ∷ 5 ∷ []) ∷ Asks host.Reply (4 ∷ []) ∷ []) (ask_at low ∷ turn_at low ∷ turn_at low ∷ [])
+        ≡ started low low ∷ line_at low (kind.Send (codes "c") (codes "alice")) ∷ started_second low low ∷ turned low 1 outcome.Ended
+        ∷ answered low (codes "alice") ∷ replied (codes "alice") ∷ turned_second low 2 outcome.Ended ∷ [] }
 {}
 
 /// A message into a channel of a label that the sender's does not flow to vanishes, and the sender learns nothing.
@@ -81,6 +91,23 @@ pub fn a_raise_ends_the_turn()
         ≡ started alice alice ∷ turned alice 1 outcome.Ended ∷ [] }
 {}
 
+/// A raised activation keeps its thread and has used nothing at its new label: raised in the last of its three units of fuel, it replies
+/// and ends there within three more. It neither works again nor is out of fuel.
+pub fn a_raise_keeps_the_thread_and_starts_at_no_units_used()
+    ensures { told_of (record roomy { fuel = 3 }) climb_acts [] (ask_at low ∷ turn_at low ∷ turn_at alice ∷ [])
+        ≡ started low low ∷ turned low 1 outcome.Raised ∷ started alice low ∷ answered alice (codes "HI") ∷ replied (codes "HI")
+        ∷ turned alice 1 outcome.Ended ∷ [] }
+{}
+
+/// An activation that raises itself into a full list is given up, and is in neither list.
+pub fn a_raise_into_a_full_list_is_dropped()
+    ensures { told_of (record roomy { queue = 1 }) raise_acts []
+        (ask_at alice ∷ ask_at low ∷ turn_at low ∷ turn_at low ∷ turn_at alice ∷ turn_at alice ∷ [])
+        ≡ started alice alice ∷ started low low ∷ turned low 1 outcome.Raised
+        ∷ line_at alice (kind.Dropped (codes "f") (Some (codes "r"))) ∷ line_at low (kind.Idle 2) ∷ turned alice 1 outcome.Ended
+        ∷ line_at alice (kind.Idle 2) ∷ [] }
+{}
+
 /// A put that does not fit is told at its label, and whoever does not see the label sees nothing of it.
 pub fn a_hidden_put_is_full()
     ensures told { told_of (record roomy { facets = 0 }) [] [] (put_at alice (codes "1") ∷ [])
@@ -92,6 +119,22 @@ pub fn a_hidden_put_is_full()
 pub fn quantum_and_fuel()
     ensures { told_of (record roomy { quantum = 2; fuel = 3 }) (Spins ∷ []) [] (ask_at low ∷ turn_at low ∷ turn_at low ∷ turn_at low ∷ [])
         ≡ started low low ∷ turned low 1 outcome.Waits ∷ turned low 2 (outcome.Trapped cause.Fuel) ∷ line_at low (kind.Idle 3) ∷ [] }
+{}
+
+/// An activation that is done in the last unit of its fuel is ended; with one unit of fuel less it is trapped.
+pub fn the_last_unit_of_fuel_may_end_it()
+    ensures ended { told_of (record roomy { fuel = 3 }) work_acts [] (ask_at low ∷ turn_at low ∷ [])
+        ≡ started low low ∷ turned low 1 outcome.Ended ∷ [] }
+    ensures trapped { told_of (record roomy { fuel = 2 }) work_acts [] (ask_at low ∷ turn_at low ∷ [])
+        ≡ started low low ∷ turned low 1 (outcome.Trapped cause.Fuel) ∷ [] }
+{}
+
+/// An activation whose units are used goes to the back of its list: two of them take turns.
+pub fn activations_take_turns()
+    ensures { told_of (record roomy { quantum = 2 }) work_acts work_acts
+        (ask_at low ∷ ask_second_at low ∷ turn_at low ∷ turn_at low ∷ turn_at low ∷ turn_at low ∷ [])
+        ≡ started low low ∷ started_second low low ∷ turned low 1 outcome.Waits ∷ turned_second low 2 outcome.Waits
+        ∷ turned low 3 outcome.Ended ∷ turned_second low 4 outcome.Ended ∷ [] }
 {}
 
 /// A function whose memory has more pages than the label allows is trapped at its first turn.
@@ -116,6 +159,20 @@ pub fn a_gate_whose_source_is_not_reached()
     ensures told { told_of roomy release_acts [] (ask_at bob ∷ turn_at bob ∷ turn_at low ∷ [])
         ≡ started bob bob ∷ turned bob 1 outcome.Ended ∷ line_at low (kind.Idle 1) ∷ [] }
     ensures seen { low_view release_acts (ask_at bob ∷ turn_at bob ∷ turn_at low ∷ []) ≡ Happens (turn_at low) ∷ [] }
+{}
+
+/// A release that is played lets its bytes in, which are filtered already: what low sees of the run that released them is what is told
+/// of its view.
+pub fn a_release_is_played()
+    ensures { told_of_items [] (Asks host.Input (7 ∷ 2 ∷ []) ∷ Asks host.Write (6 ∷ 1 ∷ 7 ∷ []) ∷ [])
+        (Out one_byte (codes "H") ∷ Happens (turn_at low) ∷ [])
+        ≡ let_in_at low alice ∷ wrote low (codes "H") ∷ unasked low 1 outcome.Ended ∷ [] }
+{}
+
+/// A message of an activation without a request starts one without a request.
+pub fn a_message_without_a_request()
+    ensures { told_of_items [] send_acts (Out one_byte (codes "H") ∷ Happens (turn_at low) ∷ [])
+        ≡ let_in_at low alice ∷ sent low ∷ let_in_at low low ∷ unasked low 1 outcome.Ended ∷ [] }
 {}
 
 /// A reply of an activation without a request does nothing but test its range.
@@ -174,6 +231,17 @@ pub fn writes_answer_whether_they_fit()
         ∷ turned low 1 outcome.Ended ∷ [] }
     ensures fits { told_of roomy (Asks host.Delete (6 ∷ 1 ∷ []) ∷ Asks host.Reply (7 ∷ []) ∷ []) [] (ask_at low ∷ turn_at low ∷ [])
         ≡ started low low ∷ line_at low (kind.Write (codes "g") None) ∷ answered low [] ∷ replied [] ∷ turned low 1 outcome.Ended ∷ [] }
+{}
+
+/// The lines of the events come first, and then those of the live facets, by key in byte order and then by label, absent ones among them.
+pub fn facets_come_in_the_end()
+    ensures { whole_of reply_acts (clear_at bob ∷ put_at alice (codes "1") ∷ put_at low (codes "2") ∷ put_key low (codes "c") (codes "3")
+        ∷ ask_at low ∷ turn_at low ∷ put_at low (codes "4") ∷ [])
+        ≡ line_at bob (kind.Write (codes "g") None) ∷ wrote alice (codes "1") ∷ wrote low (codes "2")
+        ∷ line_at low (kind.Write (codes "c") (Some (codes "3"))) ∷ started low low ∷ answered low (codes "HI") ∷ replied (codes "HI")
+        ∷ turned low 1 outcome.Ended ∷ wrote low (codes "4")
+        ∷ facet_of low (codes "c") (Some (codes "3")) ∷ facet_of low (codes "g") (Some (codes "4"))
+        ∷ facet_of alice (codes "g") (Some (codes "1")) ∷ facet_of bob (codes "g") None ∷ [] }
 {}
 
 /// A module of WebAssembly that replies with nothing: four units, the third of which asks the host.

@@ -1,0 +1,94 @@
+-- A turn: the activation that runs, and what is owed of its stint.
+use Rattle.std.specs.Prelude.{◌≡◌, ℕ, ◌<◌, ◌≤◌, List, ◌++◌, Option, Some, None, Result, Ok, Err, option_map, length}
+use Rattle.std.specs.Option.{ForSome}
+use Rattle.trapeze_io.specs.declared.failures.NoMemory.{NoMemory}
+use Rattle.label_lattice.specs.Order.{count}
+use Rattle.facet_list.specs.Rows.{Rows}
+use Rattle.trapeze_lines.specs.declared.line.Line.{Line}
+use Rattle.wasm_ast.specs.declared.modules.Module.{Module}
+use Rattle.wasm_ast.specs.Spaces.{first_pages}
+use Rattle.wasm_semantics.specs.Threads.{Thread}
+use Rattle.wasm_semantics.specs.Begin.{begin}
+use Rattle.sandbox.specs.Threads.{thread_of, IsReady}
+use Rattle.sandbox.specs.declared.going.Begun.{Begun}
+use Rattle.sandbox.specs.declared.going.Begun.TheVariants as begun
+use Rattle.host_rules.specs.States as rules
+use Rattle.host_rules.specs.Turns as turns
+use Rattle.trapeze_host.specs.declared.kept.Kept.{Kept}
+use Rattle.trapeze_host.specs.declared.requests.Requests.{Requests}
+use Rattle.trapeze_host.specs.declared.runs.Run.{Run}
+use Rattle.trapeze_host.specs.declared.runs.Ending.{Ending}
+use Rattle.trapeze_host.specs.declared.runs.Ending.TheVariants as ending
+use Rattle.trapeze_host.specs.declared.runs.Reached.{Reached}
+use Rattle.trapeze_host.specs.declared.runs.Reached.TheVariants as reached
+use Rattle.trapeze_host.specs.Adding.{AddsPart}
+use Rattle.trapeze_host.specs.Loans.{Loan}
+use Rattle.trapeze_host.specs.Keeping.{serving_of, Keeps, IsServed}
+
+-- the activation of a run, with the thread that it had before
+abbrev pub run_of : Option Thread → Run → rules.Activation Thread
+run_of before r = record {
+  function = r.function;
+  input = r.input;
+  serves = option_map serving_of r.serves;
+  thread = before;
+  used = r.used;
+}
+
+-- a run of one of the functions at one of the labels
+pub record IsRun (loan : Loan) (requests : Requests) (r : Run) : Type 0 where
+  pub at : r.at.number < count loan.policy.lattice
+  pub function : r.function < length loan.policy.functions
+  pub input : length r.input ≤ 65536
+  pub serves : ForSome r.serves (IsServed loan requests)
+
+-- how a stint in the module ended, as the rules see it
+abbrev pub end_of : Module → Ending → turns.End Thread
+end_of m ending.Ended = turns.Ended
+end_of m (ending.Trapped cause) = turns.Trapped cause
+end_of m (ending.Raised sandbox label) = turns.Raised label.number (thread_of m sandbox)
+end_of m (ending.Spent sandbox) = turns.Spent (thread_of m sandbox)
+
+-- the sandbox goes on, at one of the labels
+abbrev pub IsFitEnd : Module → ℕ → Ending → Type 0
+IsFitEnd m labels ending.Ended = Unit {0}
+IsFitEnd m labels (ending.Trapped cause) = Unit {0}
+IsFitEnd m labels (ending.Raised sandbox label) = (label.number < labels) × IsReady m sandbox
+IsFitEnd m labels (ending.Spent sandbox) = IsReady m sandbox
+
+abbrev pub IsFitReached : Module → ℕ → Reached → Type 0
+IsFitReached m labels (reached.Goes sandbox) = IsReady m sandbox
+IsFitReached m labels (reached.Ends end) = IsFitEnd m labels end
+
+-- a part of the stint is done, its lines appended, and the rest is owed from where what is kept stands now
+pub record Owes {F : Type 0} (rows : F → Rows) (loan : Loan) (whole : turns.Stint Thread) (k : Kept F) (before after : List Line)
+    (rest : rules.State Thread → turns.Stint Thread) : Type 0 where
+  pub done : rules.Moved Thread
+  pub keeps : Keeps rows loan k done.state
+  pub lines : after ≡ before ++ done.lines
+  pub makes : whole ≡ turns.then_stint done (rest done.state)
+
+-- nothing is left but the end
+abbrev pub ends_so : turns.End Thread → rules.State Thread → turns.Stint Thread
+ends_so end s = turns.stops s end
+
+-- after a host call: the rest is owed with the thread that goes on, or nothing but the end; or, out of memory, the first lines
+-- were appended
+abbrev pub Reaches : {F : Type 0} → (F → Rows) → Loan → Module → (Thread → rules.State Thread → turns.Stint Thread) → turns.Stint Thread →
+    Kept F → List Line → List Line → Result Reached NoMemory → Type 0
+Reaches rows loan m rest whole k before after (Ok (reached.Goes sandbox)) = Owes rows loan whole k before after (rest (thread_of m sandbox))
+Reaches rows loan m rest whole k before after (Ok (reached.Ends end)) = Owes rows loan whole k before after (ends_so (end_of m end))
+Reaches rows loan m rest whole k before after (Err e) = AddsPart whole.moved.lines before after
+
+-- after a whole stint
+abbrev pub Finishes : {F : Type 0} → (F → Rows) → Loan → Module → turns.Stint Thread →
+    Kept F → List Line → List Line → Result Ending NoMemory → Type 0
+Finishes rows loan m whole k before after (Ok end) = Owes rows loan whole k before after (ends_so (end_of m end))
+Finishes rows loan m whole k before after (Err e) = AddsPart whole.moved.lines before after
+
+-- the thread that an activation goes on with: its own, or the starting one, where the label allows its memory
+abbrev pub GoesOn : Module → ℕ → Option Thread → Begun → Type 0
+GoesOn m pages None (begun.Ready sandbox) = (first_pages m ≤ pages) × (thread_of m sandbox ≡ begin m) × IsReady m sandbox
+GoesOn m pages None begun.Pages = pages < first_pages m
+GoesOn m pages (Some t) (begun.Ready sandbox) = (thread_of m sandbox ≡ t) × IsReady m sandbox
+GoesOn m pages (Some t) begun.Pages = ⊥

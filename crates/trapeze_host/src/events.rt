@@ -1,0 +1,48 @@
+//! One event.
+
+ghost use Rattle.label_lattice.specs.Order.{count};
+ghost use Rattle.event_file.specs.Script.{IsFit};
+ghost use Rattle.wasm_semantics.specs.Threads.{Thread};
+ghost use Rattle.host_rules.specs.States.{State, Happens};
+ghost use Rattle.host_rules.specs.Play.{step};
+ghost use Rattle.trapeze_host.specs.Adding.{KeepsLabelled};
+ghost use Rattle.trapeze_host.specs.Loans.{known_in, rules_in, guest_in};
+ghost use Rattle.trapeze_host.specs.Keeping.{Keeps, Makes, IsSound, AreFew, RaisesNumbers};
+
+use crate::kept::Kept;
+use crate::lent::Lent;
+use event_file::Event;
+use facet_list::Facets;
+use trapeze_io::NoMemory;
+use trapeze_lines::Lines;
+
+impl<F: Facets> Kept<F> {
+    /// An event.
+    pub(crate) fn play(
+        &mut self,
+        lent: &Lent,
+        event: &Event,
+        lines: &mut Lines,
+    ) -> Result<(), NoMemory>
+        requires sound { IsSound F.limits lent.now self.old }
+        requires few { AreFew self.old }
+        requires event { IsFit (known_in lent.now.policy) event.now }
+        ensures moved { (s : State Thread) → Keeps F.rows lent.now self.old s →
+            Makes F.rows lent.now result (step (rules_in lent.now) (guest_in lent.now) s (Happens event.now)) self.new lines.old lines.new }
+        ensures sound { IsSound F.limits lent.now self.new }
+        ensures labelled { KeepsLabelled (count lent.now.policy.lattice) lines.old lines.new }
+        ensures raised { RaisesNumbers self.old self.new }
+    {
+        match event {
+            Event::Put { label, key, value } => self.put(lent, *label, key, value, lines),
+            Event::Ask {
+                label,
+                client,
+                function,
+                id,
+                body,
+            } => self.ask(lent, *label, *client, *function, *id, body, lines),
+            Event::Turn { label } => self.turn(lent, *label, lines),
+        }
+    }
+}
