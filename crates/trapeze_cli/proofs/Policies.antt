@@ -24,11 +24,11 @@ unfit_policy (Some h) name bytes fault file unfit = rw (file, unfit) refl
 pub unfit_ends : (name bytes : List ℕ) (old new : Seen) (fault : PolicyError) (status : Status) → OpensAll (name ∷ []) old new
     → IfSome old.held (λ h. file_of h name policy_limit policy_input ≡ Ok bytes) → (fault ≢ no_memory → policy_of bytes ≡ Err fault)
     → (status ≡ NoMemory) ⊎ (status ≡ Policy fault) → TellsMemory status
-    → Ends (record { input = policy_input; name = name } ∷ []) (λ h. policy_in h name) status old new
+    → Ends (record { input = policy_input; name = name } ∷ []) (λ h r. policy_in h name ≡ r) status old new
 unfit_ends name bytes old new fault status opens file unfit (inl is) tells =
-    subst (λ (s : Status). Ends (record { input = policy_input; name = name } ∷ []) (λ h. policy_in h name) s old new) (sym is)
+    subst (λ (s : Status). Ends (record { input = policy_input; name = name } ∷ []) (λ h r. policy_in h name ≡ r) s old new) (sym is)
     (record { opens = opens_one _ _ _ _ opens tt; refused = tt })
 unfit_ends name bytes old new fault status opens file unfit (inr is) tells =
     let other = (subst TellsMemory is tells).0 in
-    subst (λ (s : Status). Ends (record { input = policy_input; name = name } ∷ []) (λ h. policy_in h name) s old new) (sym is)
+    subst (λ (s : Status). Ends (record { input = policy_input; name = name } ∷ []) (λ h r. policy_in h name ≡ r) s old new) (sym is)
     (record { opens = opens_one _ _ _ _ opens refl; refused = unfit_policy old.held name bytes fault file (unfit other) })

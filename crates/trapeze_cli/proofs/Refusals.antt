@@ -1,15 +1,16 @@
 -- What a file that gave too much says of the file held, and what follows from facts of options and results.
-use Rattle.std.proofs.Common.{◌≡◌, ℕ, refl, sym, ap, ◌∙◌, subst, Some, None, IfSome, Result, Ok, Err, arith}
+use Rattle.std.proofs.Common.{◌≡◌, ◌≢◌, ℕ, refl, sym, ap, ◌∙◌, subst, Some, None, IfSome, Result, Ok, Err, arith}
 use Rattle.std.specs.declared.option.Option.{Option}
-use Rattle.trapeze_io.specs.Seen.{Held, OpenFile, GivesPrefix, ended}
+use Rattle.trapeze_io.specs.Seen.{Held, OpenFile, GivesPrefix}
 use Rattle.std.specs.Io.{StartsWith}
 use Rattle.std.specs.Prelude.{IsSome, IsOk, IsOkAnd, IfOk, IfErr, MatchOption, nat_lt, true, length, List, ◌<◌, ◌≤◌, []}
 use Rattle.std.proofs.lemmas.List.{length-take}
 use Rattle.std.proofs.lemmas.Bool.{lt-ltb}
 use Rattle.trapeze_cli.specs.declared.status.Status.TheVariants.{TooLong}
 use Rattle.trapeze_cli.specs.declared.status.Input.{Input}
+use Rattle.trapeze_cli.specs.declared.status.Input.TheVariants as inputs
+use Rattle.trapeze_cli.specs.Whys.{Why, Refused, why}
 use Rattle.trapeze_cli.specs.Command.{file_of, within}
-use Rattle.trapeze_cli.specs.Promises.{ReadsAll}
 
 -- what holds of a value that is told
 pub IfSome-map : {X : Type 0} {P Q : X → Type 0} (o : Option X) → ((x : X) → P x → Q x) → IfSome o P → IfSome o Q
@@ -56,8 +57,8 @@ too_long None name limit input now t l f = tt
 too_long (Some h) name limit input None t l f = absurd (cc (t refl))
 too_long (Some h) name limit input (Some r) t l f = of_file (h name) r.given limit input l f
 
--- a file that was read whole was read to its end, and is the one that is held
-pub reads_all : (held : Option Held) (name bytes : List ℕ) (before now : Option OpenFile) → now ≡ ended bytes before
-    → IfSome held (λ h. h name ≡ Some bytes) → ReadsAll held name now
-reads_all held name bytes None now is file = subst (λ (c : Option OpenFile). ReadsAll held name c) (sym is) tt
-reads_all held name bytes (Some b) now is file = subst (λ (c : Option OpenFile). ReadsAll held name c) (sym is) (refl, file)
+-- a file that is too long, and is not the one of the events, is refused
+pub refused_long : (P : Why → Type 0) (input : Input) → input ≢ inputs.Events → P Refused → P (why (TooLong input))
+refused_long P inputs.Policy never p = p
+refused_long P (inputs.Module f) never p = p
+refused_long P inputs.Events never p = absurd (never refl)

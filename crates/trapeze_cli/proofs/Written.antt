@@ -1,51 +1,56 @@
--- What a call wrote and opened whose events were played.
-use Rattle.std.proofs.Common.{◌≡◌, ℕ, List, Some, None, IfSome, inl, inr, refl, sym, ap, subst}
-use Rattle.std.specs.declared.option.Option.{Option}
-use Rattle.std.specs.Prelude.{IsOkAnd, Result}
-use Rattle.std.specs.Io.KnownBytes.{append_known}
-use Rattle.trapeze_io.specs.Causes.{Rose}
-use Rattle.trapeze_io.specs.Sinks.{AppendsPart}
-use Rattle.trapeze_io.specs.Seen.{Held, Seen, OpensAll}
-use Rattle.event_file.specs.declared.fault.LineError.{LineError}
-use Rattle.trapeze_lines.specs.Texts.{text}
-use Rattle.trapeze_cli.specs.declared.command.Played.{Played}
-use Rattle.trapeze_cli.specs.declared.status.Status.{Status}
-use Rattle.trapeze_cli.specs.declared.status.Status.TheVariants.{WriteFault}
-use Rattle.trapeze_cli.specs.declared.status.Input.TheVariants.{Events as events_input}
-use Rattle.trapeze_cli.specs.Forms.{Form, form_of, sources_of}
-use Rattle.trapeze_cli.specs.Command.{Scene, scene_in, scene_of, lines_of, status_of}
-use Rattle.trapeze_cli.specs.Promises.{IsPrivate, IsWritten}
-use Rattle.trapeze_cli.specs.Whys.{Played as played_why, why, names_of, IsLast, OpensTo}
-use Rattle.trapeze_cli.proofs.Refusals.{IfSome-map, IsOkAnd-map}
-use Rattle.trapeze_cli.proofs.Calls.{private}
-use Rattle.trapeze_cli.proofs.Endings.{scene_is, opens_whole}
+-- A policy's parts give the rules that are written.
+use Rattle.std.proofs.Common.{◌≡◌, ℕ, Bool, List, length, map, refl, sym, ap, subst, ◌∙◌}
+use Rattle.std.proofs.lemmas.List.{length-map}
+use Rattle.label_lattice.specs.Order.{count, flows}
+use Rattle.label_lattice.specs.Reach.{closes}
+use Rattle.label_lattice.specs.Faults.{numbered}
+use Rattle.label_lattice.specs.Joins.{join}
+use Rattle.label_lattice.specs.Sound.{IsSound}
+use Rattle.policy_toml.specs.Parts.{Parts}
+use Rattle.policy_toml.specs.PolicyOf.{Written, IsAsWritten, limits_by_label}
+use Rattle.wasm_ast.specs.declared.modules.Module.{Module}
+use Rattle.host_rules.specs.Rules.{Rules, IsOrdered}
+use Rattle.host_rules.specs.Policies.{rules_of}
+use Rattle.host_rules.specs.Modules.{guest_of}
+use Rattle.host_rules.proofs.Ordered.{are_ordered}
+use Rattle.trapeze_host.specs.Standing.{known_in}
+use Rattle.trapeze_cli.specs.declared.shown.Shown.{Shown}
+use Rattle.trapeze_cli.specs.Command.{check_text, known_under, setting_under, files_under}
+use Rattle.trapeze_cli.specs.Runs.{Setting, rules_under, setting_of}
 
--- what holds of each end of events that were played holds of the status
-by_end : (P : Status → Type 0) (played : Played) (status : Status) (before now : ℕ) (old new : Option (List ℕ)) → IsWritten played status before now old new
-    → (new ≡ append_known old played.text → P (status_of played.bad)) → (AppendsPart old new played.text → Rose before now → P WriteFault) → P status
-by_end P played status before now old new (inl (is, wrote)) whole part = subst P (sym is) (whole wrote)
-by_end P played status before now old new (inr (is, appends, rose)) whole part = subst P (sym is) (part appends rose)
+module _ (w : Written) (parts : Parts) (is : IsAsWritten w parts) where
+  flows_same : flows parts.lattice ≡ closes (numbered w.names w.flows)
+  flows_same = λ i a b. is.lattice.flows a b i
 
--- what holds of the end of a file holds of its status
-at_end : (P : Status → Type 0) (bad : Option LineError) → P (status_of None) → ((error : LineError) → P (status_of (Some error))) → P (status_of bad)
-at_end P None done bad = done
-at_end P (Some error) done bad = bad error
+  join_same : join (count parts.lattice) (flows parts.lattice) ≡ join (length w.names) (closes (numbered w.names w.flows))
+  join_same = ap (λ names. join (length names) (flows parts.lattice)) is.lattice.same ∙ ap (join (length w.names)) flows_same
 
--- what was written of events that were played is the text of private lines
-pub played_private : (words : List (List ℕ)) (form : Form) (played : Played) (held : Option Held) (status : Status) (before now : ℕ) (old new : Option (List ℕ))
-    → form_of words ≡ Some form → IfSome held (λ h. IsOkAnd (scene_in form h) (λ scene. played ≡ record { text = text scene.policy.names (lines_of scene); bad = scene.bad }))
-    → IsWritten played status before now old new → why status ≡ played_why
-    → IfSome held (λ h. IsOkAnd (scene_of words h) (IsPrivate status old new))
-played_private words form played held status before now old new is ok ends =
-    by_end (λ s. why s ≡ played_why → IfSome held (λ h. IsOkAnd (scene_of words h) (IsPrivate s old new))) played status before now old new ends
-    (λ wrote _. IfSome-map held (λ h k. subst (λ (r : Result Scene Status). IsOkAnd r (IsPrivate (status_of played.bad) old new)) (sym (scene_is words form h is))
-    (IsOkAnd-map (scene_in form h)
-    (λ scene so. private (status_of played.bad) old new scene played.bad played.text (ap (λ (p : Played). p.bad) so) (ap (λ (p : Played). p.text) so) refl wrote) k)) ok)
-    (λ part rose e. absurd (cc e))
+  pub rules_same : rules_of parts ≡ rules_under w
+  rules_same = λ i. record {
+    labels = is.lattice.same i;
+    flows = flows_same i;
+    join = join_same i;
+    limits = is.limits i;
+    functions = is.functions i;
+    channels = is.channels i;
+    clients = is.clients i;
+    clearances = is.clearances i;
+    gates = is.gates i;
+  }
 
--- all files of the form were opened
-pub played_opens : (form : Form) (played : Played) (status : Status) (before now : ℕ) (old new : Option (List ℕ)) (seen seen_now : Seen)
-    → IsWritten played status before now old new → OpensAll (names_of (sources_of form)) seen seen_now → OpensTo (sources_of form) status seen seen_now
-played_opens form played status before now old new seen seen_now ends opens =
-    opens_whole form status seen seen_now opens
-    (by_end (λ s. IsLast s events_input) played status before now old new ends (λ wrote. at_end (λ s. IsLast s events_input) played.bad refl (λ error. refl)) (λ part rose. refl))
+  pub known_same : known_in parts ≡ known_under w
+  known_same = λ i. record { labels = is.lattice.same i; clients = is.clients i; functions = is.functions i }
+
+  pub setting_same : (modules : List Module) (shown : Shown) → setting_of parts modules shown ≡ setting_under w (record { shown = shown; modules = modules })
+  setting_same modules shown = λ i. record { known = known_same i; rules = rules_same i; guest = guest_of modules; shown = shown }
+
+  pub ordered : IsSound parts.lattice → IsOrdered (rules_under w)
+  ordered sound = subst IsOrdered rules_same (are_ordered parts sound)
+
+  pub check_same : check_text (count parts.lattice) (length parts.functions) (length parts.channels) (length parts.clients)
+      ≡ check_text (length w.names) (length w.functions) (length w.channels) (length w.clients)
+  check_same =
+      ap (λ names. check_text (length names) (length parts.functions) (length parts.channels) (length parts.clients)) is.lattice.same
+      ∙ ap (λ n. check_text (length w.names) n (length parts.channels) (length parts.clients)) (ap length is.functions ∙ length-map w.functions (λ f. f.0))
+      ∙ ap (λ channels. check_text (length w.names) (length w.functions) (length channels) (length parts.clients)) is.channels
+      ∙ ap (λ n. check_text (length w.names) (length w.functions) (length w.channels) n) (ap length is.clients ∙ length-map w.clients (λ c. c.0))

@@ -1,38 +1,45 @@
 -- What a call of the program answers, by its words and the files that are held.
-use Rattle.std.specs.Prelude.{ℕ, Bool, List, [], length, map, nat_lt, if◌then◌else◌, Option, Some, None, Result, Ok, Err}
+use Rattle.std.specs.Prelude.{◌≡◌, ℕ, ◌-◌, ◌+◌, ◌⊎◌, List, [], ◌∷◌, ◌++◌, codes, decimal, length, map, take, nat_lt, if◌then◌else◌}
+use Rattle.std.specs.Prelude.{Option, Some, None, Result, Ok, Err, IsOk}
 use Rattle.trapeze_io.specs.Answers.{◌>>=◌}
 use Rattle.trapeze_io.specs.Seen.{Held}
-use Rattle.label_lattice.specs.Reach.{closes}
-use Rattle.label_lattice.specs.Faults.{numbered}
-use Rattle.label_limits.specs.declared.limits.Limits.{Limits}
+use Rattle.label_lattice.specs.Order.{place_of}
 use Rattle.policy_toml.specs.Rows.{Reading}
-use Rattle.policy_toml.specs.Parts.{Parts}
-use Rattle.policy_toml.specs.PolicyOf.{Written, policy_of, limits_by_label}
+use Rattle.policy_toml.specs.PolicyOf.{Written, policy_of}
 use Rattle.event_file.specs.Known.{Known}
-use Rattle.event_file.specs.Script.{Entries, entries_of}
-use Rattle.event_file.specs.declared.entry.Event.{Event}
-use Rattle.event_file.specs.declared.fault.LineError.{LineError}
+use Rattle.wasm_ast.specs.declared.modules.Module.{Module as Program}
+use Rattle.wasm_ast.specs.Faults.{Fault}
+use Rattle.wasm_ast.specs.Validity.{Valid, Invalidity}
+use Rattle.wasm_decode.specs.Grammar.{Spells}
+use Rattle.wasm_decode.specs.Sections.{Fails}
+use Rattle.wasm_validate.specs.Invalids.{fault_of}
+use Rattle.host_rules.specs.Modules.{guest_of}
 use Rattle.trapeze_cli.specs.declared.status.Status.{Status}
-use Rattle.trapeze_cli.specs.declared.status.Status.TheVariants.{Done, Usage, Policy, Events, ReadFault, TooLong}
+use Rattle.trapeze_cli.specs.declared.status.Status.TheVariants.{Done, Usage, Policy, Module, Events, ReadFault, TooLong}
 use Rattle.trapeze_cli.specs.declared.status.Input.{Input}
-use Rattle.trapeze_cli.specs.declared.status.Input.TheVariants.{Policy as policy_input, Events as events_input}
-use Rattle.trapeze_lines.specs.declared.line.Line.{Line}
-use Rattle.trapeze_lines.specs.Texts.{text}
-use Rattle.trapeze_cli.specs.Forms.{Form, form_of}
-use Rattle.trapeze_cli.specs.Rules.{State, start, trace, whole, events_of}
+use Rattle.trapeze_cli.specs.declared.status.Input.TheVariants.{Policy as policy_input, Module as module_input, Events as events_input}
+use Rattle.trapeze_cli.specs.declared.status.ModuleFault.{ModuleFault}
+use Rattle.trapeze_cli.specs.declared.status.ModuleFault.TheVariants.{Decode, Invalid}
+use Rattle.trapeze_cli.specs.declared.shown.Shown.{Shown}
+use Rattle.trapeze_cli.specs.declared.shown.Shown.TheVariants.{RunKinds, AllKinds, VisibleTo}
+use Rattle.trapeze_cli.specs.Exercise.{exercise_text}
+use Rattle.trapeze_cli.specs.Forms.{Show, Run, Trace, View, Form, Check, Play, policy_name, Command, Exercise, OnFiles}
+use Rattle.trapeze_cli.specs.Played.{End, AtEnd, AtBad, PastLimit, played_of}
+use Rattle.trapeze_cli.specs.Runs.{Setting, rules_under, text_of, text_heard}
 
--- the most bytes of a policy file
+-- the most bytes of a policy file, of a module's, and of an event file
 abbrev pub policy_limit : ℕ
 policy_limit = 1048576
 
--- the most bytes of an event file
+abbrev pub module_limit : ℕ
+module_limit = 4194304
+
 abbrev pub events_limit : ℕ
 events_limit = 67108864
 
--- a form that the program knows
-abbrev pub known_form : Option Form → Result Form Status
-known_form None = Err Usage
-known_form (Some form) = Ok form
+-- the most bytes of an event file that are read at a time
+abbrev pub piece : ℕ
+piece = 65536
 
 abbrev pub within : ℕ → Input → Option (List ℕ) → Result (List ℕ) Status
 within limit input None = Err (ReadFault input)
@@ -42,14 +49,6 @@ within limit input (Some bytes) = if nat_lt limit (length bytes) then Err (TooLo
 abbrev pub file_of : Held → List ℕ → ℕ → Input → Result (List ℕ) Status
 file_of held name limit input = within limit input (held name)
 
--- whether a label flows to another by the pairs of a policy
-abbrev pub flows_of : Written → ℕ → ℕ → Bool
-flows_of policy = closes (numbered policy.names policy.flows)
-
--- the limits of each label of a policy
-abbrev pub limits_of : Written → List Limits
-limits_of policy = limits_by_label (length policy.names) policy.limits
-
 abbrev pub accepted : Reading Written → Result Written Status
 accepted (Ok policy) = Ok policy
 accepted (Err fault) = Err (Policy fault)
@@ -58,63 +57,154 @@ accepted (Err fault) = Err (Policy fault)
 abbrev pub policy_in : Held → List ℕ → Result Written Status
 policy_in held name = file_of held name policy_limit policy_input >>= (λ bytes. accepted (policy_of bytes))
 
--- the entries of a file whose lines may use these names, up to its first bad line
-abbrev pub entries_in : Held → List ℕ → Known → Result Entries Status
-entries_in held name known = file_of held name events_limit events_input >>= (λ bytes. Ok (entries_of known bytes))
+-- the files of the functions
+abbrev pub files_under : Written → List (List ℕ)
+files_under policy = map (λ f. f.1) policy.functions
 
 -- the names that the lines of an event file may use under a policy
 abbrev pub known_under : Written → Known
 known_under policy = record { labels = policy.names; clients = map (λ c. c.0) policy.clients; functions = map (λ f. f.0) policy.functions }
 
--- the names that they may use under a policy that was read
-abbrev pub known_of : Parts → Known
-known_of policy = record { labels = policy.lattice.names; clients = policy.clients; functions = policy.functions }
+-- lines that have to flow to a label, if it is one
+abbrev pub shown_to : Option ℕ → Result Shown Status
+shown_to None = Err Usage
+shown_to (Some label) = Ok (VisibleTo (record { number = label }))
 
--- the policy and the events that a call plays, and the bad line that ends them, if there is one
-pub record Scene : Type 0 where
-  pub policy : Written
-  pub events : List Event
-  pub bad : Option LineError
+-- which lines are shown, where these are the names of the labels
+abbrev pub shown_by : List (List ℕ) → Show → Result Shown Status
+shown_by labels Run = Ok RunKinds
+shown_by labels Trace = Ok AllKinds
+shown_by labels (View label) = shown_to (place_of label labels)
 
--- what is played of the entries of a file
-abbrev pub scene_with : Written → Entries → Scene
-scene_with policy read = record { policy = policy; events = events_of read.entries; bad = read.bad }
+abbrev pub shown_in : List (List ℕ) → Form → Result Shown Status
+shown_in labels (Check policy) = Ok AllKinds
+shown_in labels (Play show policy events) = shown_by labels show
 
--- what is played under a policy, or why its event file is refused
-abbrev pub scene_under : Held → List ℕ → Written → Result Scene Status
-scene_under held events policy = entries_in held events (known_under policy) >>= (λ read. Ok (scene_with policy read))
+-- bytes that are no module of a function: the first fault of the bytes, or that of the module that they spell
+abbrev pub IsFaulty : List ℕ → ModuleFault → Type 0
+IsFaulty bytes (Decode fault) = Fails bytes fault
+IsFaulty bytes (Invalid told) =
+    (program : Program) × (fault : Fault) × Spells program bytes × (fault_of told ≡ Some fault) × Invalidity program fault
 
--- the first refusal, in the order of the policy and the event file, or what is played
-abbrev pub scene_in : Form → Held → Result Scene Status
-scene_in form held = policy_in held form.policy >>= scene_under held form.events
+-- what the file of a function gives: the module that it spells, which is valid; or it is not there, too long, or faulty
+abbrev pub IsModule : Held → ℕ → List ℕ → Result Program Status → Type 0
+IsModule held f name (Ok program) =
+    (bytes : List ℕ) × (file_of held name module_limit (module_input f) ≡ Ok bytes) × Spells program bytes × Valid program
+IsModule held f name (Err status) =
+    (file_of held name module_limit (module_input f) ≡ Err status)
+    ⊎ ((bytes : List ℕ) × (fault : ModuleFault) × (file_of held name module_limit (module_input f) ≡ Ok bytes)
+    × (status ≡ Module f fault) × IsFaulty bytes fault)
 
--- the first refusal, in the order of the words and the files, or what is played
-abbrev pub scene_of : List (List ℕ) → Held → Result Scene Status
-scene_of words held = known_form (form_of words) >>= (λ form. scene_in form held)
+-- what the files of the functions give, of which the first has this number: all modules, or the first refusal
+abbrev pub AreModules : Held → ℕ → List (List ℕ) → Result (List Program) Status → Type 0
+AreModules held f [] r = r ≡ Ok []
+AreModules held f (name ∷ names) (Ok []) = ⊥
+AreModules held f (name ∷ names) (Ok (program ∷ programs)) =
+    IsModule held f name (Ok program) × AreModules held (f + 1) names (Ok programs)
+AreModules held f (name ∷ names) (Err status) =
+    IsModule held f name (Err status)
+    ⊎ ((program : Program) × IsModule held f name (Ok program) × AreModules held (f + 1) names (Err status))
 
--- the lines of events: with those of the facets where the file ends, and without where a bad line ends it
-abbrev pub lines_until : Option LineError → List Limits → State → List Event → List Line
-lines_until None = whole
-lines_until (Some bad) = trace
+-- what a call has read before the event file, beside the policy
+pub record Ready : Type 0 where
+  pub shown : Shown
+  pub modules : List Program
 
--- the lines of a scene, from an empty store
-abbrev pub lines_of : Scene → List Line
-lines_of scene = lines_until scene.bad (limits_of scene.policy) (start []) scene.events
+-- what is read under a policy before the event file, or the first refusal: of the label, and then of the modules
+abbrev pub IsReady : Held → Form → Written → Result Ready Status → Type 0
+IsReady held form policy (Ok ready) =
+    (shown_in policy.names form ≡ Ok ready.shown) × AreModules held 0 (files_under policy) (Ok ready.modules)
+IsReady held form policy (Err status) =
+    (shown_in policy.names form ≡ Err status)
+    ⊎ (IsOk (shown_in policy.names form) × AreModules held 0 (files_under policy) (Err status))
 
--- how a call ends that plays a file: at its end or at a bad line
-abbrev pub status_of : Option LineError → Status
-status_of None = Done
-status_of (Some bad) = Events bad
+-- what a call does once all its files but the event file are read: it plays the event file of a name, or says a text
+pub data Task : Type 0 where
+  Plays : Setting → List ℕ → Task
+  Says : List ℕ → Task
+
+-- what events are played on
+abbrev pub setting_under : Written → Ready → Setting
+setting_under policy ready = record {
+  known = known_under policy;
+  rules = rules_under policy;
+  guest = guest_of ready.modules;
+  shown = ready.shown;
+}
+
+-- the line of a policy that is accepted
+abbrev pub check_text : ℕ → ℕ → ℕ → ℕ → List ℕ
+check_text labels functions channels clients =
+    codes "ok: " ++ decimal labels ++ codes " labels, " ++ decimal functions ++ codes " functions, "
+    ++ decimal channels ++ codes " channels, " ++ decimal clients ++ codes " clients\n"
+
+abbrev pub task_under : Form → Written → Ready → Task
+task_under (Check name) policy ready =
+    Says (check_text (length policy.names) (length policy.functions) (length policy.channels) (length policy.clients))
+task_under (Play show name events) policy ready = Plays (setting_under policy ready) events
+
+-- the task of a form under a policy, or the first refusal
+abbrev pub IsTaskUnder : Held → Form → Written → Result Task Status → Type 0
+IsTaskUnder held form policy (Ok task) =
+    (ready : Ready) × IsReady held form policy (Ok ready) × (task ≡ task_under form policy ready)
+IsTaskUnder held form policy (Err status) = IsReady held form policy (Err status)
+
+-- so it is of a policy that was read, or was refused
+abbrev pub IsTaskBy : Held → Form → Result Written Status → Result Task Status → Type 0
+IsTaskBy held form (Ok policy) task = IsTaskUnder held form policy task
+IsTaskBy held form (Err status) task = task ≡ Err status
+
+-- the task of words, or the first refusal, in the order of the words, the policy, the label and the modules; an exercise reads no file
+abbrev pub IsTask : Option Command → Held → Result Task Status → Type 0
+IsTask None held task = task ≡ Err Usage
+IsTask (Some (Exercise number)) held task = task ≡ Ok (Says (exercise_text number))
+IsTask (Some (OnFiles form)) held task = IsTaskBy held form (policy_in held (policy_name form)) task
+
+-- how a call ends whose playing ends so
+abbrev pub status_at : End → Status
+status_at AtEnd = Done
+status_at (AtBad bad) = Events bad
+status_at PastLimit = TooLong events_input
 
 -- a status, and the text that is written beside it
 pub record Answer : Type 0 where
   pub status : Status
   pub out : List ℕ
 
-abbrev pub answer_of : Result Scene Status → Answer
-answer_of (Ok scene) = record { status = status_of scene.bad; out = text scene.policy.names (lines_of scene) }
-answer_of (Err status) = record { status = status; out = [] }
+abbrev pub answer_of_file : Setting → Option (List ℕ) → Answer
+answer_of_file g None = record { status = ReadFault events_input; out = [] }
+answer_of_file g (Some file) = record {
+  status = status_at (played_of events_limit g.known file).end;
+  out = text_of g (played_of events_limit g.known file);
+}
 
--- what a call answers where no file and no sink fails and there is memory
-abbrev pub command : List (List ℕ) → Held → Answer
-command words held = answer_of (scene_of words held)
+-- what a call answers by its task, where no file and no sink fails and there is memory
+abbrev pub answer_of : Held → Result Task Status → Answer
+answer_of held (Err status) = record { status = status; out = [] }
+answer_of held (Ok (Says said)) = record { status = Done; out = said }
+answer_of held (Ok (Plays g events)) = answer_of_file g (held events)
+
+-- what a call answers whose tasks are these
+pub record IsAnswer (tasks : Held → Result Task Status → Type 0) (held : Held) (answer : Answer) : Type 0 where
+  pub task : Result Task Status
+  pub is_task : tasks held task
+  pub answered : answer ≡ answer_of held task
+
+-- the texts by which what was written is told: the whole text of the answer, that of the lines heard in the bytes given of the event file, and
+-- that of the lines heard in them without the last piece
+pub record Texts : Type 0 where
+  pub all : List ℕ
+  pub heard : List ℕ
+  pub before : List ℕ
+
+abbrev pub heard_by : Result Task Status → List ℕ → List ℕ
+heard_by (Err status) given = []
+heard_by (Ok (Says said)) given = []
+heard_by (Ok (Plays g events)) given = text_heard g given
+
+abbrev pub texts_by : Held → Result Task Status → List ℕ → Texts
+texts_by held task given = record {
+  all = (answer_of held task).out;
+  heard = heard_by task given;
+  before = heard_by task (take (length given - piece) given);
+}

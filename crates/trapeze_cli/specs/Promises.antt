@@ -1,56 +1,101 @@
 -- What the top call promises of its answers.
-use Rattle.std.specs.Prelude.{◌≡◌, ◌≢◌, ℕ, ⊤, List, [], IfSome, IsOk, ◌⊎◌, Option, Some}
-use Rattle.std.specs.Io.KnownBytes.{append_known}
-use Rattle.trapeze_io.specs.Causes.{Rose}
+use Rattle.std.specs.Prelude.{◌≡◌, ◌≢◌, ◌⊎◌, ℕ, ◌<◌, ◌≤◌, ⊤, List, [], length, IfSome, Option, Some, None, Result, Ok, Err}
 use Rattle.trapeze_io.specs.Seen.{Held, OpenFile}
-use Rattle.trapeze_io.specs.Sinks.{AppendsPart}
 use Rattle.label_lattice.specs.declared.error.LatticeError.TheVariants.{NoMemory as lattice_no_memory}
 use Rattle.policy_toml.specs.declared.error.PolicyError.TheVariants.{Lattice, NoMemory as no_memory}
+use Rattle.wasm_code.specs.declared.error.DecodeError.TheVariants.{NoMemory as decode_no_memory}
+use Rattle.wasm_validate.specs.declared.invalid.Invalid.TheVariants.{NoMemory as invalid_no_memory}
+use Rattle.event_file.specs.declared.entry.Event.{Event}
+use Rattle.event_file.specs.Heard.{heard}
 use Rattle.trapeze_lines.specs.declared.line.Line.{Line}
-use Rattle.trapeze_lines.specs.Lines.{visible}
 use Rattle.trapeze_lines.specs.Texts.{text}
-use Rattle.trapeze_cli.specs.declared.command.Played.{Played}
+use Rattle.host_rules.specs.Rules.{HasNoGates}
+use Rattle.host_rules.specs.States.{Item, start}
+use Rattle.host_rules.specs.Play.{items_of}
+use Rattle.host_rules.specs.Views.{visible, visible_events, view}
 use Rattle.trapeze_cli.specs.declared.status.Status.{Status}
-use Rattle.trapeze_cli.specs.declared.status.Status.TheVariants.{Done, Usage, Policy, Events, ReadFault, WriteFault, NoMemory, TooLong}
-use Rattle.trapeze_cli.specs.declared.status.Input.{Input}
-use Rattle.trapeze_cli.specs.declared.status.Input.TheVariants.{Policy as policy_input, Events as events_input}
-use Rattle.trapeze_cli.specs.Forms.{Form}
-use Rattle.trapeze_cli.specs.Rules.{start, visible_events}
-use Rattle.trapeze_cli.specs.Command.{Scene, Answer, flows_of, limits_of, lines_until, status_of, policy_in}
+use Rattle.trapeze_cli.specs.declared.status.Status.TheVariants.{Done, Usage, Policy, Module, Events, ReadFault, WriteFault, NoMemory, TooLong}
+use Rattle.trapeze_cli.specs.declared.status.ModuleFault.TheVariants.{Decode, Invalid}
+use Rattle.trapeze_cli.specs.Forms.{Show, Run, Trace, View, Form, Check, Play, Command, Exercise, OnFiles}
+use Rattle.trapeze_cli.specs.Played.{End, Played, played_of, events_of}
+use Rattle.trapeze_cli.specs.Runs.{Setting, shown_lines, lines_to}
+use Rattle.trapeze_cli.specs.Command.{events_limit, Task, Plays, Says, Answer, IsAnswer, status_at}
+use Rattle.trapeze_cli.specs.Appends.{AppendsAll}
 
--- noninterference of a call: what was appended is the text of some lines of which, for each o, those that flow to o are exactly
--- those that the rules give for the events that flow to o alone; a number that is no label's flows to itself alone
-pub record IsPrivate (status : Status) (old new : Option (List ℕ)) (scene : Scene) : Type 0 where
-  pub ended : status ≡ status_of scene.bad
+-- the lines that a setting shows of items, up to an end
+abbrev pub shown_of : Setting → End → List Item → List Line
+shown_of g end items = shown_lines g.rules g.shown (lines_to end g.rules g.guest items)
+
+-- noninterference of a call: what was appended is the text of some lines of which, for each o, those that flow to o are exactly those that the
+-- rules give for the view of o, which is the events that flow to o and, in place of each other one, its releases into o; and, where the policy has no
+-- gate, for the events that flow to o alone. A number that is no label's flows to itself alone
+pub record IsPrivate (g : Setting) (played : Played) (status : Status) (old new : Option (List ℕ)) : Type 0 where
+  pub ended : status ≡ status_at played.end
   pub lines : List Line
-  pub written : new ≡ append_known old (text scene.policy.names lines)
-  pub private : (o : ℕ) → visible (flows_of scene.policy) o lines
-      ≡ visible (flows_of scene.policy) o (lines_until scene.bad (limits_of scene.policy) (start [])
-      (visible_events (flows_of scene.policy) o scene.events))
+  pub written : AppendsAll (text g.rules.labels lines) old new
+  pub private : (o : ℕ) → visible g.rules o lines
+      ≡ visible g.rules o (shown_of g played.end (view g.rules g.guest o (start []) (events_of played.entries)))
+  pub alone : HasNoGates g.rules → (o : ℕ) → visible g.rules o lines
+      ≡ visible g.rules o (shown_of g played.end (items_of (visible_events g.rules o (events_of played.entries))))
+
+-- so it is of a task that plays a file
+abbrev pub IsPrivateIn : Held → Task → Status → Option (List ℕ) → Option (List ℕ) → Type 0
+IsPrivateIn held (Plays g events) status old new =
+    IfSome (held events) (λ file. IsPrivate g (played_of events_limit g.known file) status old new)
+IsPrivateIn held (Says said) status old new = ⊤
+
+-- the task is one of which this holds
+abbrev pub OfTask : (Held → Result Task Status → Type 0) → Held → (Task → Type 0) → Type 0
+OfTask tasks held P = (task : Task) × tasks held (Ok task) × P task
+
+-- no bad line is heard in the bytes given of the event file, and they are not too many
+abbrev pub IsClean : List ℕ → Task → Type 0
+IsClean given (Plays g events) = ((heard g.known given).bad ≡ None) × (length given ≤ events_limit)
+IsClean given (Says said) = ⊤
 
 -- the status and the whole text are those of the answer
 pub record Gives (answer : Answer) (status : Status) (old new : Option (List ℕ)) : Type 0 where
   pub answered : status ≡ answer.status
-  pub whole : new ≡ append_known old answer.out
+  pub whole : AppendsAll answer.out old new
 
--- what a file of events gave was written whole, and the status is that of its end; or a part was written, and the sink failed
-abbrev pub IsWritten : Played → Status → ℕ → ℕ → Option (List ℕ) → Option (List ℕ) → Type 0
-IsWritten played status before now old new =
-    ((status ≡ status_of played.bad) × (new ≡ append_known old played.text))
-    ⊎ ((status ≡ WriteFault) × AppendsPart old new played.text × Rose before now)
-
--- all before the input was accepted
-abbrev pub Reaches : Option Form → Held → Input → Type 0
-Reaches form held policy_input = IfSome form (λ f. ⊤)
-Reaches form held events_input = IfSome form (λ f. IsOk (policy_in held f.policy))
+-- the words and the files say this answer, by the tasks that these are
+abbrev pub IsGiven : (Held → Result Task Status → Type 0) → Held → Status → Option (List ℕ) → Option (List ℕ) → Type 0
+IsGiven tasks held status old new = (answer : Answer) × IsAnswer tasks held answer × Gives answer status old new
 
 -- the open file was read to its end, and is the one that is held under this name, where these are told
 abbrev pub ReadsAll : Option Held → List ℕ → Option OpenFile → Type 0
 ReadsAll held name current = IfSome current (λ r. (r.rest ≡ []) × IfSome held (λ files. files name ≡ Some r.given))
 
--- being out of memory is a status of its own, and no fault of a policy
+-- so was the event file of a form that plays one
+abbrev pub ReadsEvents : Option Form → Option Held → Option OpenFile → Type 0
+ReadsEvents None held current = ⊤
+ReadsEvents (Some (Check policy)) held current = ⊤
+ReadsEvents (Some (Play show policy events)) held current = ReadsAll held events current
+
+-- a label is named
+abbrev pub IsOfLabel : Show → Type 0
+IsOfLabel Run = ⊥
+IsOfLabel Trace = ⊥
+IsOfLabel (View label) = ⊤
+
+-- a usage refusal is of words without a command, or of those that name a label
+abbrev pub IsRefusedCommand : Option Command → Type 0
+IsRefusedCommand None = ⊤
+IsRefusedCommand (Some (Exercise number)) = ⊥
+IsRefusedCommand (Some (OnFiles (Check policy))) = ⊥
+IsRefusedCommand (Some (OnFiles (Play show policy events))) = IsOfLabel show
+
+-- an exercise is done, or the output failed, or memory was refused
+abbrev pub EndsExercise : Option Command → Status → Type 0
+EndsExercise None status = ⊤
+EndsExercise (Some (Exercise number)) status = (status ≡ Done) ⊎ ((status ≡ WriteFault) ⊎ (status ≡ NoMemory))
+EndsExercise (Some (OnFiles form)) status = ⊤
+
+-- being out of memory is a status of its own, and no fault of a policy or a module
 abbrev pub TellsMemory : Status → Type 0
 TellsMemory (Policy fault) = (fault ≢ no_memory) × (fault ≢ Lattice lattice_no_memory)
+TellsMemory (Module function (Decode fault)) = fault ≢ decode_no_memory
+TellsMemory (Module function (Invalid fault)) = fault ≢ invalid_no_memory
 TellsMemory Done = ⊤
 TellsMemory Usage = ⊤
 TellsMemory (Events error) = ⊤

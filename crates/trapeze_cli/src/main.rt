@@ -1,15 +1,20 @@
-//! Plays a file of events against a labelled store, under a policy that says which label may flow to which, and prints
-//! labelled lines.
+//! Plays a file of events against functions and a labelled store, under a policy that says which label may flow to which, and
+//! prints labelled lines.
 #![tactic(auto)]
 
 mod command;
-mod facets;
+mod counts;
+mod exercise;
 mod forms;
+mod halt;
 mod inputs;
 mod laws;
+mod numbers;
 mod play;
 mod report;
+mod shown;
 mod status;
+mod stream;
 
 use command::trapeze;
 use report::report;
@@ -44,11 +49,9 @@ fn main(rt: HostRuntime) -> ExitCode {
 
 /// The end of a program whose words could not be read.
 fn end<E: Sink>(err: &mut E, status: Status) -> ExitCode {
-    report(err, status, &[]);
+    report(err, status, None, None);
     ExitCode::from(status.code())
 }
 
-#[cfg(test)]
-mod report_tests;
 #[cfg(test)]
 mod tests;

@@ -1,180 +1,195 @@
-//! The events of a file, played on a store.
+//! Events, played one at a time on a host, each with its lines written before the next.
 
-ghost use Rattle.std.specs.Prelude.{◌≡◌, ◌<◌, ◌^◌, ◌++◌, [], ◌∷◌, length, None, Ok, IfOk, OnOk, List, ℕ, if◌then◌else◌};
-ghost use Rattle.label_lattice.specs.Order.{count};
-ghost use Rattle.facet_list.specs.Rows.{rows_after};
-ghost use Rattle.facet_list.specs.Room.{fits_in};
-ghost use Rattle.event_file.specs.Reader.{entries_with, IsOneLine};
-ghost use Rattle.event_file.specs.Script.{entries_of};
-ghost use Rattle.trapeze_lines.specs.Texts.{line_text};
-ghost use Rattle.trapeze_cli.specs.Command.{known_of};
-ghost use Rattle.trapeze_lines.specs.Lines.{line_at};
-ghost use Rattle.trapeze_lines.specs.declared.line.Kind.TheVariants.{Full};
-ghost use Rattle.trapeze_cli.specs.Rules.{entry_events, write_of};
-ghost use Rattle.trapeze_cli.specs.Played.{ArePlayed, Plays, IsFitEntry, IsFitEvent, ending, left_after};
+ghost use Rattle.std.specs.Prelude.{◌≡◌, ◌≤◌, ◌<◌, ◌+◌, ◌^◌, ◌++◌, ◌∷◌, [], All, OnOk, Ok, Err};
+ghost use Rattle.std.specs.Prelude.{filter, length, replicate};
+ghost use Rattle.label_lattice.specs.Order.{count, flows};
+ghost use Rattle.event_file.specs.Script.{IsFit, IsWithin};
+ghost use Rattle.trapeze_lines.specs.Lines.{IsLabelled};
+ghost use Rattle.trapeze_lines.specs.Texts.{text};
+ghost use Rattle.wasm_semantics.specs.Threads.{Thread};
+ghost use Rattle.host_rules.specs.States.{State};
+ghost use Rattle.host_rules.specs.Stores.{facet_lines};
+ghost use Rattle.trapeze_host.specs.Standing.{policy_in, modules_in, is_spent, played_in, known_in, Stands};
+ghost use Rattle.trapeze_cli.specs.Played.{entry_events};
+ghost use Rattle.trapeze_cli.specs.Runs.{setting_of, IsShownTo};
+ghost use Rattle.trapeze_cli.specs.Shows.{shows};
+ghost use Rattle.trapeze_cli.specs.Playing.{AppendsBy, CountsWrites, CanPlay, PlaysOn, most_turns, said_of};
 
-use event_file::{Entry, Event, EventReader, LineError, Next};
-use facet_list::{Facets, Wrote};
-use label_lattice::{Label, Lattice};
+use crate::halt::Halt;
+use crate::shown::Shown;
+use event_file::{Entry, Event};
+use facet_list::Facets;
 use policy_toml::Policy;
 use std::alloc::Global;
-use trapeze_io::{Bytes, NoMemory};
-use trapeze_lines::{Kind, Line, write_text};
+use std::mem;
+use trapeze_host::Host;
+use trapeze_io::{Bytes, NoMemory, Sink, write_whole};
+use trapeze_lines::{Line, Lines, write_text};
 
-/// The most bytes that a reader is fed at a time.
-const SLICE: usize = 65_536;
-
-/// Plays the events that the bytes of a file say, up to its first bad line, if there is one, and adds the lines that they
-/// give.
-pub(crate) fn play_bytes<T: Facets>(
-    alloc: Global,
-    policy: &Policy,
-    bytes: &[u8],
-    store: &mut T,
-    out: &mut Bytes,
-) -> Result<Option<LineError>, NoMemory>
-    requires few { length bytes.now < 2 ^ 62 }
-    requires labels { length (T.limits store.old) ≡ count policy.now.lattice }
-    ensures ok { IfOk result (λ bad. Plays policy.now.lattice.names (T.limits store.old)
-        (T.rows store.old) (T.rows store.new) out.old out.new (entries_of (known_of policy.now) bytes.now) (ending bad)) }
-    ensures limits { T.limits store.new ≡ T.limits store.old }
-{
-    let lattice = policy.lattice();
-    let mut reader = EventReader::new(alloc, lattice, policy.clients(), policy.functions());
-    let mut fed = 0;
-    'slices: while fed < bytes.len() {
-        let end = (fed + SLICE).min(bytes.len());
-        reader.feed(&bytes[fed..end])?;
-        fed = end;
-        if let Some(bad) = play_lines(alloc, lattice, &mut reader, store, out)? {
-            return Ok(Some(bad));
-        }
-    }
-    play_last(alloc, lattice, &mut reader, store, out)
+/// The policy under which events are played, and which lines are shown.
+#[derive(Clone, Copy, Drop)]
+pub(crate) struct Scene<'a> {
+    pub(crate) policy: &'a Policy,
+    pub(crate) shown: Shown,
 }
 
-/// Plays the entries of the whole lines that a reader keeps, up to the first bad one.
-fn play_lines<T: Facets>(
+/// Where the text of the lines of one event is made, one event after the other.
+#[derive(Drop)]
+pub(crate) struct Page {
+    text: Bytes,
     alloc: Global,
-    lattice: &Lattice,
-    reader: &mut EventReader,
-    store: &mut T,
-    out: &mut Bytes,
-) -> Result<Option<LineError>, NoMemory>
-    requires good { reader.old.bad ≡ None }
-    requires names { reader.old.known.labels ≡ lattice.now.names }
-    requires labels { length (T.limits store.old) ≡ count lattice.now }
-    ensures ok { IfOk result (λ bad. (more : List ℕ) → Plays lattice.now.names (T.limits store.old)
-        (T.rows store.old) (T.rows store.new) out.old out.new (entries_with reader.old more) (left_after bad reader.new more)) }
-    ensures rest { IfOk result (λ bad. bad ≡ None → (reader.new.bad ≡ None) × IsOneLine reader.new.kept) }
-    ensures stays { reader.new ≡ record reader.old { kept = reader.new.kept; lines = reader.new.lines; bad = reader.new.bad } }
-    ensures limits { T.limits store.new ≡ T.limits store.old }
-{
-    'lines: loop {
-        match reader.next_line() {
-            Next::Entry(entry) => play_entry(alloc, lattice, entry, store, out)?,
-            Next::Bad(bad) => return Ok(Some(bad)),
-            Next::NoLine => return Ok(None),
-            Next::NoMemory => return Err(NoMemory),
+}
+
+impl Page {
+    /// A page without a text.
+    pub(crate) fn new(alloc: Global) -> Page {
+        Page {
+            text: Bytes::new(alloc),
+            alloc,
         }
+    }
+
+    /// Lets the text go, and keeps its place for another.
+    fn clear(&mut self)
+        ensures { self.new.text ≡ [] }
+    {
+        let mut bytes = mem::replace(&mut self.text, Bytes::new(self.alloc)).into_vec();
+        bytes.clear();
+        self.text = Bytes::from_vec(bytes);
     }
 }
 
-/// Plays the last line, which has no end, unless it is bad.
-fn play_last<T: Facets>(
-    alloc: Global,
-    lattice: &Lattice,
-    reader: &mut EventReader,
-    store: &mut T,
-    out: &mut Bytes,
-) -> Result<Option<LineError>, NoMemory>
-    requires good { reader.old.bad ≡ None }
-    requires rest { IsOneLine reader.old.kept }
-    requires names { reader.old.known.labels ≡ lattice.now.names }
-    requires labels { length (T.limits store.old) ≡ count lattice.now }
-    ensures ok { IfOk result (λ bad. Plays lattice.now.names (T.limits store.old) (T.rows store.old) (T.rows store.new) out.old out.new
-        (entries_with reader.old []) (ending bad)) }
-    ensures limits { T.limits store.new ≡ T.limits store.old }
+/// Adds the texts of the lines that are shown.
+fn tell(alloc: Global, scene: &Scene, lines: &[Line], said: &mut Bytes) -> Result<(), NoMemory>
+    requires shown { IsShownTo (count scene.now.policy.now.lattice) scene.now.shown }
+    requires labelled { All (IsLabelled (count scene.now.policy.now.lattice)) lines.now }
+    ensures { OnOk result (said.new ≡ said.old ++ text scene.now.policy.now.lattice.names
+        (filter (shows (flows scene.now.policy.now.lattice) scene.now.shown) lines.now)) }
 {
-    match reader.finish() {
-        Next::Entry(entry) => {
-            play_entry(alloc, lattice, entry, store, out)?;
-            Ok(None)
+    let lattice = scene.policy.lattice();
+    'lines: for line in lines {
+        if scene.shown.shows(lattice, line) {
+            write_text(alloc, line, lattice, said)?;
         }
-        Next::Bad(bad) => Ok(Some(bad)),
-        Next::NoLine => Ok(None),
-        Next::NoMemory => Err(NoMemory),
     }
+    Ok(())
 }
 
-/// Plays the events of an entry.
-fn play_entry<T: Facets>(
-    alloc: Global,
-    lattice: &Lattice,
-    entry: Entry,
-    store: &mut T,
-    out: &mut Bytes,
-) -> Result<(), NoMemory>
-    requires entry { IsFitEntry (count lattice.now) entry }
-    requires labels { length (T.limits store.old) ≡ count lattice.now }
-    ensures ok { OnOk result (ArePlayed lattice.now.names (T.limits store.old) (entry_events entry)
-        (T.rows store.old) (T.rows store.new) out.old out.new) }
-    ensures limits { T.limits store.new ≡ T.limits store.old }
+/// Writes the texts of the lines that are shown.
+fn write_lines<S: Sink>(
+    scene: &Scene,
+    lines: &[Line],
+    page: &mut Page,
+    out: &mut S,
+) -> Result<(), Halt>
+    requires shown { IsShownTo (count scene.now.policy.now.lattice) scene.now.shown }
+    requires labelled { All (IsLabelled (count scene.now.policy.now.lattice)) lines.now }
+    ensures lines { AppendsBy result (said_of (setting_of scene.now.policy.now [] scene.now.shown) lines.now)
+        (S.written out.old) (S.written out.new) }
+    ensures counts { CountsWrites result (S.faults out.old) (S.faults out.new) }
 {
-    let Entry::One(event) = entry;
-    play_event(alloc, lattice, &event, store, out)
+    page.clear();
+    tell(page.alloc, scene, lines, &mut page.text)?;
+    write_whole(out, page.text.as_slice())?;
+    Ok(())
 }
 
-/// Plays one event.
-fn play_event<T: Facets>(
-    alloc: Global,
-    lattice: &Lattice,
+/// Plays one event, and writes its lines.
+fn play_event<T: Facets, S: Sink>(
+    scene: &Scene,
     event: &Event,
-    store: &mut T,
-    out: &mut Bytes,
-) -> Result<(), NoMemory>
-    requires event { IsFitEvent (count lattice.now) event.now }
-    requires labels { length (T.limits store.old) ≡ count lattice.now }
-    ensures ok { OnOk result (ArePlayed lattice.now.names (T.limits store.old) (event.now ∷ [])
-        (T.rows store.old) (T.rows store.new) out.old out.new) }
-    ensures limits { T.limits store.new ≡ T.limits store.old }
+    host: &mut Host<T>,
+    page: &mut Page,
+    out: &mut S,
+) -> Result<(), Halt>
+    requires can { CanPlay scene.now.policy.now (policy_in host.old) (is_spent host.old) }
+    requires shown { IsShownTo (count scene.now.policy.now.lattice) scene.now.shown }
+    requires few { played_in host.old < 2 ^ 62 }
+    requires event { IsFit (known_in scene.now.policy.now) event.now }
+    ensures plays { PlaysOn (setting_of scene.now.policy.now (modules_in host.old) scene.now.shown)
+        (Stands T.rows host.old) (Stands T.rows host.new) (event.now ∷ []) result
+        (S.written out.old) (S.written out.new) }
+    ensures goes_on { OnOk result (CanPlay scene.now.policy.now (policy_in host.new) (is_spent host.new)) }
+    ensures counted { OnOk result (played_in host.new ≡ played_in host.old + 1) }
+    ensures modules { modules_in host.new ≡ modules_in host.old }
+    ensures counts { CountsWrites result (S.faults out.old) (S.faults out.new) }
 {
-    let Event::Put { label, key, .. } = event;
-    match write_put(event, store)? {
-        Wrote::Done => Ok(()),
-        Wrote::Full => add_full(alloc, lattice, *label, key.as_slice(), out),
+    let mut lines = Lines::new(page.alloc);
+    host.play(event, &mut lines)?;
+    write_lines(scene, lines.as_slice(), page, out)
+}
+
+/// Plays an event so many times, and writes its lines each time.
+fn play_times<T: Facets, S: Sink>(
+    scene: &Scene,
+    event: &Event,
+    times: u32,
+    host: &mut Host<T>,
+    page: &mut Page,
+    out: &mut S,
+) -> Result<(), Halt>
+    requires can { CanPlay scene.now.policy.now (policy_in host.old) (is_spent host.old) }
+    requires shown { IsShownTo (count scene.now.policy.now.lattice) scene.now.shown }
+    requires few { played_in host.old + times < 2 ^ 62 }
+    requires event { IsFit (known_in scene.now.policy.now) event.now }
+    ensures plays { PlaysOn (setting_of scene.now.policy.now (modules_in host.old) scene.now.shown)
+        (Stands T.rows host.old) (Stands T.rows host.new) (replicate times event.now) result
+        (S.written out.old) (S.written out.new) }
+    ensures goes_on { OnOk result (CanPlay scene.now.policy.now (policy_in host.new) (is_spent host.new)) }
+    ensures counted { OnOk result (played_in host.new ≡ played_in host.old + times) }
+    ensures modules { modules_in host.new ≡ modules_in host.old }
+    ensures counts { CountsWrites result (S.faults out.old) (S.faults out.new) }
+{
+    'turns: for _turn in 0..times {
+        play_event(scene, event, host, page, out)?;
+    }
+    Ok(())
+}
+
+/// Plays the events of an entry, and writes the lines of each before the next.
+pub(crate) fn play_entry<T: Facets, S: Sink>(
+    scene: &Scene,
+    entry: Entry,
+    host: &mut Host<T>,
+    page: &mut Page,
+    out: &mut S,
+) -> Result<(), Halt>
+    requires can { CanPlay scene.now.policy.now (policy_in host.old) (is_spent host.old) }
+    requires shown { IsShownTo (count scene.now.policy.now.lattice) scene.now.shown }
+    requires few { played_in host.old + most_turns < 2 ^ 62 }
+    requires entry { IsWithin (known_in scene.now.policy.now) entry }
+    ensures plays { PlaysOn (setting_of scene.now.policy.now (modules_in host.old) scene.now.shown)
+        (Stands T.rows host.old) (Stands T.rows host.new) (entry_events entry) result
+        (S.written out.old) (S.written out.new) }
+    ensures goes_on { OnOk result (CanPlay scene.now.policy.now (policy_in host.new) (is_spent host.new)) }
+    ensures counted { OnOk result (played_in host.new ≤ played_in host.old + most_turns) }
+    ensures modules { modules_in host.new ≡ modules_in host.old }
+    ensures counts { CountsWrites result (S.faults out.old) (S.faults out.new) }
+{
+    match entry {
+        Entry::One(event) => play_event(scene, &event, host, page, out),
+        Entry::Turns { label, count } => {
+            play_times(scene, &Event::Turn { label }, count, host, page, out)
+        }
     }
 }
 
-/// Asks the store for the write of a put.
-fn write_put<T: Facets>(event: &Event, store: &mut T) -> Result<Wrote, NoMemory>
-    requires { IsFitEvent (length (T.limits store.old)) event.now }
-    ensures fits { IfOk result (λ wrote.
-        wrote ≡ (if fits_in (T.limits store.old) (T.rows store.old) (write_of event.now) then Wrote.Done else Wrote.Full)) }
-    ensures done { result ≡ Ok Wrote.Done → T.rows store.new ≡ rows_after (T.rows store.old) (write_of event.now) }
-    ensures full { result ≡ Ok Wrote.Full → T.rows store.new ≡ T.rows store.old }
-    ensures limits { T.limits store.new ≡ T.limits store.old }
+/// Writes the lines of the facets in the end.
+pub(crate) fn write_facets<T: Facets, S: Sink>(
+    scene: &Scene,
+    host: &Host<T>,
+    page: &mut Page,
+    out: &mut S,
+) -> Result<(), Halt>
+    requires can { CanPlay scene.now.policy.now (policy_in host.now) (is_spent host.now) }
+    requires shown { IsShownTo (count scene.now.policy.now.lattice) scene.now.shown }
+    ensures lines { (s : State Thread) → Stands T.rows host.now s →
+        AppendsBy result
+        (said_of (setting_of scene.now.policy.now (modules_in host.now) scene.now.shown) (facet_lines s.store))
+        (S.written out.old) (S.written out.new) }
+    ensures counts { CountsWrites result (S.faults out.old) (S.faults out.new) }
 {
-    let Event::Put { label, key, value } = event;
-    let value = match value {
-        Some(value) => Some(value.as_slice()),
-        None => None,
-    };
-    store.write(*label, key.as_slice(), value)
-}
-
-/// Adds the line of a write that does not fit the limits of its label.
-fn add_full(
-    alloc: Global,
-    lattice: &Lattice,
-    label: Label,
-    key: &[u8],
-    out: &mut Bytes,
-) -> Result<(), NoMemory>
-    requires { label.number < count lattice.now }
-    ensures { OnOk result (out.new ≡ out.old ++ line_text lattice.now.names (line_at label.number (Full key.now))) }
-{
-    let key = Bytes::copy(alloc, key)?;
-    let kind = Kind::Full { key };
-    write_text(alloc, &Line { label, kind }, lattice, out)
+    let mut lines = Lines::new(page.alloc);
+    host.facet_lines(&mut lines)?;
+    write_lines(scene, lines.as_slice(), page, out)
 }

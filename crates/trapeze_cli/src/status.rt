@@ -5,25 +5,40 @@ ghost use Rattle.trapeze_cli.specs.Statuses.{code_of};
 
 use event_file::LineError;
 use policy_toml::PolicyError;
+use wasm_decode::DecodeError;
+use wasm_validate::Invalid;
 
 /// A file that a call reads.
 #[derive(Debug, Clone, Copy, PartialEq, Eq, Drop)]
 pub enum Input {
     /// The policy.
     Policy,
+    /// The file of the function with this number.
+    Module(u32),
     /// The file of events.
     Events,
+}
+
+/// Why a file gives no module of a function.
+#[derive(Debug, Clone, Copy, PartialEq, Eq, Drop)]
+pub enum ModuleFault {
+    /// The bytes spell no module.
+    Decode(DecodeError),
+    /// The module is not valid.
+    Invalid(Invalid),
 }
 
 /// How a call of the program ended.
 #[derive(Debug, Clone, Copy, PartialEq, Eq, Drop)]
 pub enum Status {
-    /// All was played, and its whole text was written.
+    /// All was done, and its whole text was written.
     Done,
-    /// The words have no form that the program knows.
+    /// The words have no form that the program knows, or name a label that is none.
     Usage,
     /// The policy is refused, with this first fault.
     Policy(PolicyError),
+    /// The module of a function is refused, with this first fault.
+    Module { function: u32, fault: ModuleFault },
     /// The event file has this first bad line.
     Events(LineError),
     /// A file could not be opened or read.
@@ -45,6 +60,7 @@ impl Status {
             Status::Done => 0,
             Status::Usage => 1,
             Status::Policy(_) => 2,
+            Status::Module { .. } => 3,
             Status::Events(_) => 4,
             Status::ReadFault(_) => 5,
             Status::WriteFault => 6,

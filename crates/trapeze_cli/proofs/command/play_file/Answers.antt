@@ -1,5 +1,28 @@
-use Rattle.trapeze_cli.proofs.StepsInTurn.{opens_one}
+use Rattle.std.proofs.Common.{◌≡◌, ◌∙◌, ap, sym, subst, refl}
+use Rattle.host_rules.specs.States.{start}
+use Rattle.trapeze_host.specs.Standing.{modules_in}
+use Rattle.trapeze_cli.specs.Runs.{setting_of}
+use Rattle.trapeze_cli.proofs.Ending.{answers_unopened, answers_none, file_unopened, file_since, gives_none, opens_reads, counted_read}
 use Rattle.trapeze_cli.proofs.command.play_file.Goals as goal
 
-pub returns-clause-steps : goal.returns-clause-steps
-returns-clause-steps g c = record { opens = opens_one _ _ _ _ c.in_ok-bytes.ensures.steps tt; refused = tt }
+pub returns-in_default-clause-answers : goal.returns-in_default-clause-answers
+returns-in_default-clause-answers g c = answers_unopened _ _ _ _ c.in_default.ensures.bytes
+
+pub returns-in_default-new-clause-answers : goal.returns-in_default-new-clause-answers
+returns-in_default-new-clause-answers g c = answers_none _ _ _
+
+pub returns-in_default-start-clause-answers : goal.returns-in_default-start-clause-answers
+returns-in_default-start-clause-answers g c = answers_none _ _ _
+
+pub returns-in_default-clause-file : goal.returns-in_default-clause-file
+returns-in_default-clause-file g c = file_unopened _ _ _
+
+pub returns-in_default-new-clause-file : goal.returns-in_default-new-clause-file
+returns-in_default-new-clause-file g c =
+    let opened = c.in-Ok.ensures.bytes in
+    file_since _ _ _ _ _ opened.0 _ opened.1 opened.2 (gives_none _)
+
+pub returns-in_default-start-clause-file : goal.returns-in_default-start-clause-file
+returns-in_default-start-clause-file g c =
+    let opened = c.in-Ok.ensures.bytes in
+    file_since _ _ _ _ _ opened.0 _ opened.1 opened.2 (gives_none _)

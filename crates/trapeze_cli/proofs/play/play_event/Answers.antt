@@ -1,14 +1,19 @@
-use Rattle.std.proofs.Common.{ap, Ok, rules, arith}
-use Rattle.std.proofs.lemmas.Grind.{common_steps}
-use Rattle.trapeze_cli.proofs.Pieces.{OnOk-map}
-use Rattle.trapeze_cli.proofs.Playing.{done_played, full_played}
+use Rattle.std.proofs.Common.{◌∙◌}
+use Rattle.trapeze_host.specs.Standing.{policy_in, modules_in, Stands}
+use Rattle.trapeze_cli.specs.Runs.{setting_of}
+use Rattle.trapeze_cli.proofs.Playing.{err_is, plays_nothing}
+use Rattle.trapeze_cli.proofs.Telling.{event_played, all_labelled}
 use Rattle.trapeze_cli.proofs.play.play_event.Goals as goal
 
-pub returns-in-Done-clause-ok : goal.returns-in-Done-clause-ok
-returns-in-Done-clause-ok g c = done_played _ _ c.args.event.now c.in_ok-write_put.field-0 _ _ _ c.in_ok-write_put.ensures.fits c.in-Done.is (c.in_ok-write_put.ensures.done (ap Ok c.in-Done.is))
+pub returns-in_err-play-clause-plays : goal.returns-in_err-play-clause-plays
+returns-in_err-play-clause-plays g c = rw (err_is _ _ c.from_residual.ensures.1) (plays_nothing _ _ _ _ _)
 
-pub returns-in-Full-clause-ok : goal.returns-in-Full-clause-ok
-returns-in-Full-clause-ok g c = OnOk-map c.add_full.result
-    (λ line. full_played _ _ c.args.event.now c.in_ok-write_put.field-0 _ _ _ _ c.in_ok-write_put.ensures.fits c.in-Full.is (c.in_ok-write_put.ensures.full (ap Ok c.in-Full.is))
-    (first_of (search (rules, line), grind (arith, common_steps, line))))
-    c.add_full.ensures
+pub write_lines-requires-clause-labelled : goal.write_lines-requires-clause-labelled
+write_lines-requires-clause-labelled g c =
+    all_labelled c.args.scene.now.policy.now _ _ _ c.requires.can.is_lent c.new-lines.ensures (rw c.as_slice.ensures c.in_ok-play.ensures.labelled)
+
+pub returns-clause-plays : goal.returns-clause-plays
+returns-clause-plays g c =
+    event_played c.args.scene.now.policy.now (policy_in c.args.host.now) (modules_in c.args.host.now) c.args.scene.now.shown (Stands g.T.Facets.rows c.args.host.now) (Stands g.T.Facets.rows c.play.new.self) c.args.event.now
+    _ c.play.new.lines c.write_lines.result _ _ c.requires.can.is_lent c.new-lines.ensures
+    (λ s is. (c.in_ok-play.ensures.moved s is).stands) (λ s is. (c.in_ok-play.ensures.moved s is).lines) (rw c.as_slice.ensures at c.write_lines.ensures.lines)
