@@ -1,0 +1,6 @@
+/* Never ends by itself. */
+#include "../include/trapeze.h"
+
+TRAPEZE_HANDLE {
+    for (;;) {}
+}
