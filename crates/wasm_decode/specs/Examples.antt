@@ -1,40 +1,16 @@
--- Modules in bytes, and as trees.
-use Rattle.std.specs.Prelude.{ℕ, true, List, [], ◌∷◌, ◌++◌, codes, Some, None, take, drop}
-use Rattle.wasm_ast.specs.declared.val_types.ValType.TheVariants.{I32}
-use Rattle.wasm_ast.specs.declared.imports.ImportKind.TheVariants as import_kind
-use Rattle.wasm_ast.specs.declared.exports.ExportKind.TheVariants as export_kind
-use Rattle.wasm_ast.specs.declared.trees.Instr.{Instr}
-use Rattle.wasm_ast.specs.declared.trees.Instr.TheVariants as V
-use Rattle.wasm_ast.specs.declared.modules.Module.{Module}
-use Rattle.wasm_code.specs.Examples.{hex, endless}
+-- Modules in bytes; their trees are the test modules.
+use Rattle.std.specs.Prelude.{ℕ, List, ◌++◌, codes, take, drop}
+use Rattle.wasm_code.specs.Examples.{hex}
 
 -- a module whose function `handle` is a loop without an end
 abbrev pub spin_bytes : List ℕ
 spin_bytes = hex (codes "0061736d01000000" ++ codes "010401600000" ++ codes "03020100" ++ codes "070a010668616e646c650000"
     ++ codes "0a0901070003400c000b0b")
 
-abbrev pub spin : Module
-spin = record {
-  types = record { params = []; results = [] } ∷ [];
-  imports = [];
-  functions = 0 ∷ [];
-  tables = [];
-  memories = [];
-  globals = [];
-  exports = record { name = codes "handle"; kind = export_kind.Function; index = 0 } ∷ [];
-  start = None;
-  elements = [];
-  pieces = [];
-  bodies = endless ∷ [];
-}
-
 -- the same with `f32.const 0`, dropped, in place of the loop
 abbrev pub float_bytes : List ℕ
 float_bytes = hex (codes "0061736d01000000" ++ codes "010401600000" ++ codes "03020100" ++ codes "070a010668616e646c650000"
     ++ codes "0a0a01080043000000001a0b")
-
-abbrev pub float : Module
-float = record spin { bodies = record { locals = []; code = record { items = V.F32Const 0 ∷ V.Drop ∷ [] } } ∷ [] }
 
 -- a module that replies with its input, by two imported functions
 abbrev pub echo_bytes : List ℕ
@@ -42,38 +18,12 @@ echo_bytes = hex (codes "0061736d01000000" ++ codes "010f0360027f7f017f60027f7f0
     ++ codes "0221020774726170657a6505696e70757400000774726170657a65057265706c790001" ++ codes "03020102" ++ codes "0503010001"
     ++ codes "070a010668616e646c650002" ++ codes "0a10010e004100410041808004100010010b")
 
-abbrev pub echo : Module
-echo = record {
-  types = record { params = I32 ∷ I32 ∷ []; results = I32 ∷ [] } ∷ record { params = I32 ∷ I32 ∷ []; results = [] }
-      ∷ record { params = []; results = [] } ∷ [];
-  imports = record { «module» = codes "trapeze"; name = codes "input"; kind = import_kind.Function 0 }
-      ∷ record { «module» = codes "trapeze"; name = codes "reply"; kind = import_kind.Function 1 } ∷ [];
-  functions = 2 ∷ [];
-  tables = [];
-  memories = record { minimum = 1; maximum = None } ∷ [];
-  globals = [];
-  exports = record { name = codes "handle"; kind = export_kind.Function; index = 2 } ∷ [];
-  start = None;
-  elements = [];
-  pieces = [];
-  bodies = record { locals = []; code = record { items = V.I32Const 0 ∷ V.I32Const 0 ∷ V.I32Const 65536 ∷ V.Call 0 ∷ V.Call 1 ∷ [] } } ∷ [];
-}
-
 -- the same with a table, 17 pages, a global that can be set, an exported memory, indices of five bytes and a custom section
 abbrev pub built_bytes : List ℕ
 built_bytes = hex (codes "0061736d01000000" ++ codes "010f0360027f7f017f60027f7f00600000"
     ++ codes "0221020774726170657a6505696e70757400000774726170657a65057265706c790001" ++ codes "03020102" ++ codes "04050170010101"
     ++ codes "0503010011" ++ codes "0609017f01418080c0000b" ++ codes "071302066d656d6f727902000668616e646c650002"
     ++ codes "0a180116004100410041808004108080808000108180808000" ++ codes "0b" ++ codes "0005046e616d65")
-
-abbrev pub built : Module
-built = record echo {
-  tables = record { minimum = 1; maximum = Some 1 } ∷ [];
-  memories = record { minimum = 17; maximum = None } ∷ [];
-  globals = record { val_type = I32; mutable = true; initial = record { items = V.I32Const 1048576 ∷ [] } } ∷ [];
-  exports = record { name = codes "memory"; kind = export_kind.Memory; index = 0 }
-      ∷ record { name = codes "handle"; kind = export_kind.Function; index = 2 } ∷ [];
-}
 
 -- the module that replies, with other bytes for the size of its first section, which takes one
 abbrev pub with_size : List ℕ → List ℕ
@@ -84,23 +34,3 @@ abbrev pub fill_bytes : List ℕ
 fill_bytes = hex (codes "0061736d01000000" ++ codes "01090260027f7f00600000" ++ codes "0211010774726170657a65057265706c790000"
     ++ codes "03020101" ++ codes "0503010001" ++ codes "070a010668616e646c650001" ++ codes "0c0100"
     ++ codes "0a26012400410041074102fc0b00410141004102fc0a00004104418001c03602004100410810000b")
-
-abbrev pub fill_code : List Instr
-fill_code =
-    V.I32Const 0 ∷ V.I32Const 7 ∷ V.I32Const 2 ∷ V.MemoryFill ∷ V.I32Const 1 ∷ V.I32Const 0 ∷ V.I32Const 2 ∷ V.MemoryCopy
-    ∷ V.I32Const 4 ∷ V.I32Const 128 ∷ V.Num 0xc0 ∷ V.Store 0x36 2 0 ∷ V.I32Const 0 ∷ V.I32Const 8 ∷ V.Call 0 ∷ []
-
-abbrev pub fill : Module
-fill = record {
-  types = record { params = I32 ∷ I32 ∷ []; results = [] } ∷ record { params = []; results = [] } ∷ [];
-  imports = record { «module» = codes "trapeze"; name = codes "reply"; kind = import_kind.Function 0 } ∷ [];
-  functions = 1 ∷ [];
-  tables = [];
-  memories = record { minimum = 1; maximum = None } ∷ [];
-  globals = [];
-  exports = record { name = codes "handle"; kind = export_kind.Function; index = 1 } ∷ [];
-  start = None;
-  elements = [];
-  pieces = [];
-  bodies = record { locals = []; code = record { items = fill_code } } ∷ [];
-}

@@ -1,12 +1,12 @@
 //! What follows from the definitions.
 
 ghost use Rattle.std.specs.Prelude.{ℕ, ◌≡◌, ◌⊎◌, List, ◌∷◌, [], take, Ok, Err};
+ghost use Rattle.wasm_ast.specs.TestModules.{built, echo, fill, float, spin};
 ghost use Rattle.wasm_ast.specs.declared.modules.Module.{Module};
 ghost use Rattle.wasm_code.specs.declared.error.DecodeError.{DecodeError};
 ghost use Rattle.wasm_code.specs.declared.error.DecodeError.TheVariants.{Malformed};
 ghost use Rattle.wasm_code.specs.Agreement.{IsWithin};
-ghost use Rattle.wasm_decode.specs.Examples.{spin_bytes, spin, float_bytes, float, echo_bytes, echo, built_bytes, built, with_size};
-ghost use Rattle.wasm_decode.specs.Examples.{fill_bytes, fill};
+ghost use Rattle.wasm_decode.specs.Examples.{built_bytes, echo_bytes, fill_bytes, float_bytes, spin_bytes, with_size};
 ghost use Rattle.wasm_decode.specs.Grammar.{Spells};
 ghost use Rattle.wasm_decode.specs.Sections.{Fails, module_of, whole};
 

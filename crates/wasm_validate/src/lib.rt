@@ -11,6 +11,7 @@ mod structure;
 pub use hosts::host_call;
 pub use invalid::Invalid;
 pub use modules::{ValidModule, validate};
+pub use wasm_ast::{FloatPlace, HostName, SegmentPlace};
 
 #[cfg(test)]
 mod tests;

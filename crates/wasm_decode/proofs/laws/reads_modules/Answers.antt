@@ -1,12 +1,13 @@
 use Rattle.std.proofs.Common.{refl, ◌≡◌, Ok}
 use Rattle.std.specs.Str.{is_utf8, chars}
 use Rattle.std.specs.Char.{encode_utf8}
+use Rattle.wasm_ast.specs.TestModules.{built, fill}
 use Rattle.wasm_leb.specs.Leb.{leb}
 use Rattle.wasm_code.specs.Fields.{u32, s32, raw, val_type, times, vector, range, sized, bytes, name}
 use Rattle.wasm_code.specs.Reading.{block_type, step, steps, locals, body}
 use Rattle.wasm_decode.specs.Parts.{func_type, limits, memory_type, table, global_type, import_kind, import, global, export, number, element, piece, pieces, bodies, code}
 use Rattle.wasm_decode.specs.Sections.{after_id, customs, section, sections, module_of}
-use Rattle.wasm_decode.specs.Examples.{built, built_bytes, fill, fill_bytes}
+use Rattle.wasm_decode.specs.Examples.{built_bytes, fill_bytes}
 use Rattle.wasm_decode.proofs.Whole.{module_sound}
 use Rattle.wasm_decode.proofs.laws.reads_modules.Goals as goal
 
