@@ -1,29 +1,54 @@
--- The limits of each label, as the rows are taken one by one.
-use Rattle.std.proofs.Common.{◌≡◌, ℕ, ◌+◌, ◌<◌, ℤ, List, [], ◌∷◌, length, map, take, get_or, refl, sym, ◌∙◌, ap, subst}
-use Rattle.std.specs.Prelude.{All, fold, slice_set}
-use Rattle.std.proofs.lemmas.List.{map-set}
-use Rattle.std.proofs.lemmas.List.Sums.{fold_more}
-use Rattle.label_limits.specs.Ranges.{numbers_of, limits_with}
+-- The limits of each label, which are within their ranges.
+use Rattle.std.proofs.Common.{◌≡◌, ℕ, ◌+◌, ◌==◌, ℤ, pos, Bool, true, false, cond, List, [], ◌∷◌, length, Option, Some, None, refl, sym, ◌∙◌, ap, subst}
+use Rattle.std.proofs.lemmas.List.Elements.{All-head, All-tail, All-map}
+use Rattle.std.proofs.lemmas.List.FromFn.{length-map-range_with_len}
+use Rattle.std.specs.Prelude.{All, find, not, option_map, position, unwrap_or}
+use Rattle.std.specs.List.{range_with_len, slice_index_or}
+use Rattle.label_limits.specs.Ranges.{first_outside, is_within, usual, AreWithin}
 use Rattle.label_limits.specs.declared.limits.Limits.{Limits}
+use Rattle.policy_toml.specs.PolicyOf.{limits_at, limits_by_label}
 use Rattle.policy_toml.specs.Steps.{IsRowOf}
-use Rattle.policy_toml.specs.PolicyOf.{with_row}
 
-pub row_at : (labels : ℕ) (rows : List (ℕ × List ℤ)) (i : ℕ) (row shown : ℕ × List ℤ) → All (IsRowOf labels) rows → i < length rows → row ≡ get_or rows i row → shown ≡ row → IsRowOf labels shown
-row_at labels rows i row shown each below is same = subst (IsRowOf labels) (sym is ∙ sym same) (each i row below)
+-- the first of six tests that fails, from 1
+unfoldable failing : Bool → Bool → Bool → Bool → Bool → Bool → Option ℕ
+failing a b c d e f = option_map (λ i. i + 1) (position not (a ∷ b ∷ c ∷ d ∷ e ∷ f ∷ []))
 
-pub one_more_row : (base : List (List ℤ)) (rows : List (ℕ × List ℤ)) (i : ℕ) (row : ℕ × List ℤ) (all : List Limits) (label : ℕ) (limits : Limits)
-    → i < length rows → row ≡ get_or rows i row → (label, numbers_of limits) ≡ row → map numbers_of all ≡ fold with_row base (take i rows)
-    → map numbers_of (slice_set all label limits) ≡ fold with_row base (take (i + 1) rows)
-one_more_row base rows i row all label limits below is same so =
-    map-set numbers_of all label limits
-    ∙ ap (λ x. with_row x (label, numbers_of limits)) so
-    ∙ ap (with_row (fold with_row base (take i rows))) (same ∙ is)
-    ∙ sym (fold_more with_row base rows i row below)
+tests : (a b c d e f : ℤ) → first_outside (a ∷ b ∷ c ∷ d ∷ e ∷ f ∷ [])
+    ≡ failing (is_within (1, 1000000) a) (is_within (1, 1000000000) b) (is_within (0, 65536) c) (is_within (1, 65536) d) (is_within (0, 1000000) e) (is_within (0, 1073741824) f)
+unfolding failing
+tests a b c d e f = refl
 
--- limits are what their six numbers say
-pub limits_by_numbers : (all : List Limits) → map limits_with (map numbers_of all) ≡ all
-limits_by_numbers [] = refl
-limits_by_numbers (limits ∷ all) = ap (λ rest. limits ∷ rest) (limits_by_numbers all)
+none_fails : failing true true true true true true ≡ None
+unfolding failing
+none_fails = refl
 
-pub limits_of_numbers : (all : List Limits) (numbers : List (List ℤ)) → map numbers_of all ≡ numbers → all ≡ map limits_with numbers
-limits_of_numbers all numbers so = sym (limits_by_numbers all) ∙ ap (map limits_with) so
+pub are_within : (l : Limits)
+    → is_within (1, 1000000) (pos l.quantum) ≡ true → is_within (1, 1000000000) (pos l.fuel) ≡ true → is_within (0, 65536) (pos l.pages) ≡ true
+    → is_within (1, 65536) (pos l.queue) ≡ true → is_within (0, 1000000) (pos l.facets) ≡ true → is_within (0, 1073741824) (pos l.bytes) ≡ true → AreWithin l
+are_within l quantum fuel pages queue facets bytes =
+    tests (pos l.quantum) (pos l.fuel) (pos l.pages) (pos l.queue) (pos l.facets) (pos l.bytes)
+    ∙ rw (quantum, fuel, pages, queue, facets, bytes) none_fails
+
+chosen : (b : Bool) (row : ℕ × Limits) (rest : Option (ℕ × Limits)) → AreWithin row.1
+    → AreWithin (unwrap_or (option_map (λ row. row.1) rest) usual) → AreWithin (unwrap_or (option_map (λ row. row.1) (cond b (Some row) rest)) usual)
+chosen true row rest here there = here
+chosen false row rest here there = there
+
+row_within : (test : ℕ × Limits → Bool) (rows : List (ℕ × Limits)) → All (λ row. AreWithin row.1) rows
+    → AreWithin (unwrap_or (option_map (λ row. row.1) (find test rows)) usual)
+row_within test [] each = refl
+row_within test (row ∷ rows) each =
+    chosen (test row) row (find test rows) (All-head (λ row. AreWithin row.1) row rows each)
+    (row_within test rows (All-tail (λ row. AreWithin row.1) row rows each))
+
+pub limits_within : (labels : ℕ) (rows : List (ℕ × Limits)) (label : ℕ) → All (IsRowOf labels) rows → AreWithin (limits_at rows label)
+limits_within labels rows label each = row_within (λ row. row.0 == label) rows (λ k row below. (each k row below).limits)
+
+pub all_within : (n labels : ℕ) (rows : List (ℕ × Limits)) (all : List Limits) → All (IsRowOf labels) rows → all ≡ limits_by_label n rows
+    → All AreWithin all
+all_within n labels rows all each is =
+    subst (All AreWithin) (sym is)
+    (All-map AreWithin (limits_at rows) (range_with_len 0 n) (λ k label below. limits_within labels rows (slice_index_or (range_with_len 0 n) k label) each))
+
+pub one_for_each : (labels : ℕ) (rows : List (ℕ × Limits)) (all : List Limits) → all ≡ limits_by_label labels rows → length all ≡ labels
+one_for_each labels rows all is = ap length is ∙ length-map-range_with_len (limits_at rows) 0 labels

@@ -1,5 +1,4 @@
 pub mod ByLabel
-pub mod Replaced
 pub mod Rows
 pub mod Search
 pub mod Whole

@@ -1,5 +1,5 @@
 -- The whole of a policy, from its parts.
-use Rattle.std.proofs.Common.{◌≡◌, ℕ, ◌≤◌, ◌<◌, ℤ, List, Ok, length, map, refl, sym, ◌∙◌, ap, subst}
+use Rattle.std.proofs.Common.{◌≡◌, ℕ, ◌≤◌, ◌<◌, List, Ok, length, map, refl, sym, ◌∙◌, ap, subst}
 use Rattle.std.specs.Prelude.{All, IsTrue}
 use Rattle.std.proofs.lemmas.List.{length-map}
 use Rattle.std.proofs.lemmas.List.Elements.{All-map}
@@ -56,7 +56,7 @@ is_policy order limits channels functions files clients clearances gates functio
     }
 
 -- every step gave a value, so the table is a policy
-pub accepted : (root : Members) (names : List (List ℕ)) (flows : List (List ℕ × List ℕ)) (limits : List (ℕ × List ℤ)) (functions : List (List ℕ × List ℕ)) (channels : List (List ℕ × Channel)) (clients : List (List ℕ × ℕ)) (gates : List (List ℕ × Gate))
+pub accepted : (root : Members) (names : List (List ℕ)) (flows : List (List ℕ × List ℕ)) (limits : List (ℕ × Limits)) (functions : List (List ℕ × List ℕ)) (channels : List (List ℕ × Channel)) (clients : List (List ℕ × ℕ)) (gates : List (List ℕ × Gate))
     → root_keys root ≡ Ok tt → labels_of root ≡ Ok names → flows_of root ≡ Ok flows → lattice_of names flows ≡ Ok tt → limits_of names root ≡ Ok limits → functions_of root ≡ Ok functions
     → channels_of names (map (λ f. f.0) functions) root ≡ Ok channels → clients_of names root ≡ Ok clients → gates_of names (map (λ f. f.0) functions) root ≡ Ok gates
     → table_policy root ≡ Ok (record { names = names; flows = flows; limits = limits; functions = functions; channels = channels; clients = clients; gates = gates })

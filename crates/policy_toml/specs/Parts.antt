@@ -1,6 +1,8 @@
 -- What a policy holds, and what holds of it.
-use Rattle.std.specs.Prelude.{◌≡◌, ℕ, ◌<◌, ◌≤◌, List, All, IsTrue, length}
+use Rattle.std.specs.Prelude.{◌≡◌, ℕ, ◌<◌, ◌≤◌, List, All, IsTrue, String, length, map, string_bytes}
+use Rattle.std.specs.Global.{Global}
 use Rattle.label_lattice.specs.Order.{Order, count}
+use Rattle.label_lattice.specs.declared.label.Label.{Label}
 use Rattle.label_limits.specs.Ranges.{AreWithin}
 use Rattle.label_limits.specs.declared.limits.Limits.{Limits}
 use Rattle.labelled_channel.specs.declared.channels.Channel.{Channel}
@@ -18,6 +20,20 @@ pub record Parts : Type 0 where
   pub clients : List (List ℕ)
   pub clearances : List ℕ
   pub gates : List (List ℕ × Gate)
+
+-- the parts as the code keeps them: file names as texts, clearances as labels
+abbrev pub parts_of :
+    Order → List Limits → List (List ℕ × Channel) → List (List ℕ) → List (String Global) → List (List ℕ) → List Label → List (List ℕ × Gate) → Parts
+parts_of lattice limits channels functions files clients clearances gates = record {
+  lattice = lattice;
+  limits = limits;
+  channels = channels;
+  functions = functions;
+  files = map string_bytes files;
+  clients = clients;
+  clearances = map (λ label. label.number) clearances;
+  gates = gates;
+}
 
 -- a row of limits for each label, a file for each function, a clearance for each client; names in byte order; no number out of range
 pub record IsPolicy (parts : Parts) : Type 0 where

@@ -1,14 +1,15 @@
 -- The policy that the bytes of a file are.
-use Rattle.std.specs.Prelude.{◌≡◌, ℕ, ℤ, List, slice_set, fold, map, replicate, length, Ok}
+use Rattle.std.specs.Prelude.{◌≡◌, ℕ, ◌==◌, List, find, map, length, option_map, unwrap_or, Ok}
+use Rattle.std.specs.List.{range_with_len}
 use Rattle.toml.specs.Data.{Members}
 use Rattle.label_lattice.specs.Faults.{Denotes}
-use Rattle.label_limits.specs.Ranges.{limits_with}
+use Rattle.label_limits.specs.Ranges.{usual}
 use Rattle.label_limits.specs.declared.limits.Limits.{Limits}
 use Rattle.labelled_channel.specs.declared.channels.Channel.{Channel}
 use Rattle.gate_rules.specs.declared.gate.Gate.{Gate}
 use Rattle.trapeze_io.specs.Answers.{◌>>=◌}
 use Rattle.policy_toml.specs.Rows.{Reading}
-use Rattle.policy_toml.specs.Steps.{document_of, root_keys, labels_of, flows_of, lattice_of, limits_of, functions_of, channels_of, clients_of, gates_of, usual_numbers}
+use Rattle.policy_toml.specs.Steps.{document_of, root_keys, labels_of, flows_of, lattice_of, limits_of, functions_of, channels_of, clients_of, gates_of}
 use Rattle.policy_toml.specs.Parts.{Parts}
 
 -- what a policy file says: labels, flows, limits by label, functions with their files, channels with a label and a function, clients with a label,
@@ -16,7 +17,7 @@ use Rattle.policy_toml.specs.Parts.{Parts}
 pub record Written : Type 0 where
   pub names : List (List ℕ)
   pub flows : List (List ℕ × List ℕ)
-  pub limits : List (ℕ × List ℤ)
+  pub limits : List (ℕ × Limits)
   pub functions : List (List ℕ × List ℕ)
   pub channels : List (List ℕ × Channel)
   pub clients : List (List ℕ × ℕ)
@@ -40,12 +41,12 @@ table_policy root =
 abbrev pub policy_of : List ℕ → Reading Written
 policy_of bytes = document_of bytes >>= table_policy
 
--- the limits of each label: the usual ones, and in their place those of its row
-abbrev pub with_row : List (List ℤ) → ℕ × List ℤ → List (List ℤ)
-with_row limits row = slice_set limits row.0 row.1
+-- the limits of a label: those of its row, or the usual ones
+abbrev pub limits_at : List (ℕ × Limits) → ℕ → Limits
+limits_at rows label = unwrap_or (option_map (λ row. row.1) (find (λ row. row.0 == label) rows)) usual
 
-abbrev pub limits_by_label : ℕ → List (ℕ × List ℤ) → List Limits
-limits_by_label labels rows = map limits_with (fold with_row (replicate labels usual_numbers) rows)
+abbrev pub limits_by_label : ℕ → List (ℕ × Limits) → List Limits
+limits_by_label labels rows = map (limits_at rows) (range_with_len 0 labels)
 
 -- a policy's parts are those that are written
 pub record IsAsWritten (written : Written) (parts : Parts) : Type 0 where

@@ -1,5 +1,5 @@
 -- The tests of a policy, in their order: a fault of an earlier one comes first.
-use Rattle.std.specs.Prelude.{◌≡◌, IsTrue, ℕ, ◌+◌, ◌-◌, ◌<◌, slice_set, Bool, ◌&&◌, nat_le, List, [], ◌∷◌, length, Option, Some, None, option_map, option_and_then, ok_or, Ok, Err, ℤ, pos, negsuc, codes, if◌then◌else◌}
+use Rattle.std.specs.Prelude.{IsTrue, ℕ, ◌-◌, ◌<◌, nat_abs, Bool, ◌&&◌, nat_le, List, length, Option, Some, None, option_map, option_and_then, ok_or, Ok, Err, ℤ, codes, if◌then◌else◌}
 use Rattle.std.specs.List.{slice_index_or}
 use Rattle.std.specs.Str.{is_utf8, bytes_eq}
 use Rattle.label_lattice.specs.declared.label.Label.{Label}
@@ -9,7 +9,8 @@ use Rattle.trapeze_io.specs.Answers.{◌>>=◌}
 use Rattle.trapeze_io.specs.Names.{is_name}
 use Rattle.label_lattice.specs.Order.{place_of}
 use Rattle.label_lattice.specs.Faults.{first_fault}
-use Rattle.label_limits.specs.Ranges.{ranges, is_within, first_outside, numbers_of, usual}
+use Rattle.label_limits.specs.Ranges.{ranges, is_within, usual, AreWithin}
+use Rattle.label_limits.specs.declared.limits.Limits.{Limits}
 use Rattle.labelled_channel.specs.declared.channels.Channel.{Channel}
 use Rattle.gate_rules.specs.declared.filter.Filter.{Filter}
 use Rattle.gate_rules.specs.declared.filter.Filter.TheVariants as filter
@@ -19,7 +20,7 @@ use Rattle.policy_toml.specs.declared.place.Part.TheVariants as part
 use Rattle.policy_toml.specs.declared.place.Place.{Place}
 use Rattle.policy_toml.specs.declared.error.PolicyError.TheVariants.{Toml, Extra, Missing, WrongKind, Lattice, BadName, UnknownLabel, UnknownFunction, OutOfRange}
 use Rattle.policy_toml.specs.Places.{whole, row_of, field_of}
-use Rattle.policy_toml.specs.Rows.{Reading, unless, each_row, items_of, rows_of, where_written, keys_of, extra_key, row_table, text_at}
+use Rattle.policy_toml.specs.Rows.{Reading, unless, each_row, items_of, rows_of, where_written, extra_key, row_table, text_at}
 
 -- the bytes are a UTF-8 text that is a TOML document
 abbrev pub document_of : List ℕ → Reading Members
@@ -63,46 +64,52 @@ flows_of root = where_written (get_member (codes "flows") root) flows_in
 unfoldable pub lattice_of : List (List ℕ) → List (List ℕ × List ℕ) → Reading (Unit {0})
 lattice_of names pairs = unless (option_map Lattice (first_fault names pairs))
 
--- the limits of a label of which none are written
-abbrev pub usual_numbers : List ℤ
-usual_numbers = numbers_of usual
+-- a whole number within a range
+abbrev pub number_within : ℕ × ℕ → Place → ℤ → Reading ℕ
+number_within range place number = if is_within range number then Ok (nat_abs number) else Err (OutOfRange place)
 
--- a limit that is written is a whole number within its range, and takes the place of the usual one
-abbrev pub limit : Place → Option Data → List ℤ → Reading (List ℤ)
-limit place None numbers = Ok numbers
-limit place (Some d) numbers =
-    ok_or (as_integer d) (WrongKind place) >>= (λ number.
-    if is_within (slice_index_or ranges (place.item - 1) (0, 0)) number then Ok (slice_set numbers (place.item - 1) number) else Err (OutOfRange place))
+-- a field that is a number within a range, and the default where it is not written
+abbrev pub number_in : ℕ × ℕ → ℕ → Place → Option Data → Reading ℕ
+number_in range default place None = Ok default
+number_in range default place (Some d) = ok_or (as_integer d) (WrongKind place) >>= number_within range place
 
--- the limits of a row in the order of their keys, of which the first is the field with this number
-abbrev pub limits_from : ℕ → List (List ℕ) → Members → ℕ → List ℤ → Reading (List ℤ)
-limits_from row [] table field numbers = Ok numbers
-limits_from row (key ∷ keys) table field numbers =
-    limit (field_of part.Limits row field) (get_member key table) numbers >>= limits_from row keys table (field + 1)
+abbrev pub number_at : List ℕ → ℕ × ℕ → ℕ → Place → Members → Reading ℕ
+number_at key range default place table = number_in range default place (get_member key table)
+
+-- the range of a limit, which are counted from 1
+abbrev pub range_of : ℕ → ℕ × ℕ
+range_of limit = slice_index_or ranges (limit - 1) (0, 0)
 
 -- the six limits of a row
-unfoldable pub row_limits : ℕ → Members → Reading (List ℤ)
-row_limits row table = limits_from row (keys_of part.Limits) table 1 usual_numbers
+unfoldable pub row_limits : ℕ → Members → Reading Limits
+row_limits row table = do
+  quantum ← number_at (codes "quantum") (range_of 1) usual.quantum (field_of part.Limits row 1) table
+  fuel ← number_at (codes "fuel") (range_of 2) usual.fuel (field_of part.Limits row 2) table
+  pages ← number_at (codes "pages") (range_of 3) usual.pages (field_of part.Limits row 3) table
+  queue ← number_at (codes "queue") (range_of 4) usual.queue (field_of part.Limits row 4) table
+  facets ← number_at (codes "facets") (range_of 5) usual.facets (field_of part.Limits row 5) table
+  bytes ← number_at (codes "bytes") (range_of 6) usual.bytes (field_of part.Limits row 6) table
+  Ok (record { quantum = quantum; fuel = fuel; pages = pages; queue = queue; facets = facets; bytes = bytes })
 
 -- a row of limits is of a label, and a table
-abbrev pub limits_row : List (List ℕ) → ℕ → List ℕ × Data → Reading (ℕ × List ℤ)
+abbrev pub limits_row : List (List ℕ) → ℕ → List ℕ × Data → Reading (ℕ × Limits)
 limits_row names row entry =
     ok_or (place_of entry.0 names) (UnknownLabel (row_of part.Limits row)) >>= (λ label.
     row_table part.Limits row entry.1 >>= (λ table.
-    row_limits row table >>= (λ numbers. Ok (label, numbers))))
+    row_limits row table >>= (λ limits. Ok (label, limits))))
 
 -- the limits, where they are written, are a table
-abbrev pub limits_in : List (List ℕ) → Data → Reading (List (ℕ × List ℤ))
+abbrev pub limits_in : List (List ℕ) → Data → Reading (List (ℕ × Limits))
 limits_in names d =
     ok_or (as_table d) (WrongKind (whole part.Limits)) >>= (λ table. each_row (limits_row names) 1 (rows_of table))
 
-unfoldable pub limits_of : List (List ℕ) → Members → Reading (List (ℕ × List ℤ))
+unfoldable pub limits_of : List (List ℕ) → Members → Reading (List (ℕ × Limits))
 limits_of names root = where_written (get_member (codes "limits") root) (limits_in names)
 
 -- a row of limits is of a label below this count, and within the ranges
-pub record IsRowOf (labels : ℕ) (row : ℕ × List ℤ) : Type 0 where
+pub record IsRowOf (labels : ℕ) (row : ℕ × Limits) : Type 0 where
   pub label : row.0 < labels
-  pub limits : first_outside row.1 ≡ None
+  pub limits : AreWithin row.1
 
 -- a part has at most so many rows
 abbrev pub at_most : ℕ → Part → Members → Reading (Unit {0})
@@ -189,16 +196,6 @@ filter_named text =
 abbrev pub filter_at : List ℕ → Place → Members → Reading Filter
 filter_at key place table = text_at key place table >>= (λ text. ok_or (filter_named text) (WrongKind place))
 
--- a count is 0 to 65,536
-abbrev pub count_within : Place → ℤ → Reading ℕ
-count_within place (pos count) = if nat_le count largest_count then Ok count else Err (OutOfRange place)
-count_within place (negsuc count) = Err (OutOfRange place)
-
--- a field that is a count, the largest one where it is not written
-abbrev pub count_in : Place → Option Data → Reading ℕ
-count_in place None = Ok largest_count
-count_in place (Some d) = ok_or (as_integer d) (WrongKind place) >>= count_within place
-
 -- a count is of the first bytes alone
 abbrev pub with_count : Filter → ℕ → Filter
 with_count filter.All count = filter.All
@@ -212,7 +209,7 @@ gate_fields names functions row table = do
   target ← label_at names (codes "target") (field_of part.Gates row 2) table
   function ← function_at functions (codes "function") (field_of part.Gates row 3) table
   lets ← filter_at (codes "filter") (field_of part.Gates row 4) table
-  count ← count_in (field_of part.Gates row 5) (get_member (codes "count") table)
+  count ← number_at (codes "count") (0, largest_count) largest_count (field_of part.Gates row 5) table
   Ok (record { source = record { number = source }; target = record { number = target }; function = function; filter = with_count lets count })
 
 -- a gate has a name, and its row is a table

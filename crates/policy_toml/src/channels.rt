@@ -34,11 +34,7 @@ pub fn channels(
         return Ok(Channels::new(alloc));
     };
     let Some(table) = value.as_table() else {
-        return Err(PolicyError::WrongKind(Place {
-            part: Part::Channels,
-            row: 0,
-            item: 0,
-        }));
+        return Err(PolicyError::WrongKind(Place::whole(Part::Channels)));
     };
     channel_rows(alloc, lattice, functions, table)
 }
@@ -79,17 +75,9 @@ fn channel_row(
 {
     let name = name_of(Part::Channels, row, key)?;
     let table = row_table(Part::Channels, row, value)?;
-    let place = Place {
-        part: Part::Channels,
-        row,
-        item: 1,
-    };
+    let place = Place::field(Part::Channels, row, 1);
     let label = label_at(lattice, table, "label", place)?;
-    let place = Place {
-        part: Part::Channels,
-        row,
-        item: 2,
-    };
+    let place = Place::field(Part::Channels, row, 2);
     let function = function_at(functions, table, "function", place)?;
     Ok((name, label, function))
 }

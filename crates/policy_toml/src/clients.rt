@@ -43,11 +43,7 @@ pub fn clients(alloc: Global, lattice: &Lattice, root: &Table) -> Result<Vec<Cli
         return Ok(Vec::new(alloc));
     };
     let Some(table) = value.as_table() else {
-        return Err(PolicyError::WrongKind(Place {
-            part: Part::Clients,
-            row: 0,
-            item: 0,
-        }));
+        return Err(PolicyError::WrongKind(Place::whole(Part::Clients)));
     };
     at_most(65_536, Part::Clients, table)?;
     client_rows(alloc, lattice, table)
@@ -76,11 +72,7 @@ fn client_row(lattice: &Lattice, row: u64, key: &str, value: &Value) -> Result<C
 {
     let name = name_of(Part::Clients, row, key)?;
     let table = row_table(Part::Clients, row, value)?;
-    let place = Place {
-        part: Part::Clients,
-        row,
-        item: 1,
-    };
+    let place = Place::field(Part::Clients, row, 1);
     let clearance = label_at(lattice, table, "clearance", place)?;
     Ok(Client { name, clearance })
 }

@@ -31,11 +31,7 @@ pub fn root_keys(root: &Table) -> Result<(), PolicyError>
     ensures { Reads (λ done. done) (root_keys (table_view root.now)) result }
 {
     match extra_key(Part::Root, root) {
-        Some(row) => Err(PolicyError::Extra(Place {
-            part: Part::Root,
-            row,
-            item: 0,
-        })),
+        Some(row) => Err(PolicyError::Extra(Place::row(Part::Root, row))),
         None => Ok(()),
     }
 }

@@ -45,11 +45,7 @@ pub fn functions(alloc: Global, root: &Table) -> Result<Vec<Function>, PolicyErr
         return Ok(Vec::new(alloc));
     };
     let Some(table) = value.as_table() else {
-        return Err(PolicyError::WrongKind(Place {
-            part: Part::Functions,
-            row: 0,
-            item: 0,
-        }));
+        return Err(PolicyError::WrongKind(Place::whole(Part::Functions)));
     };
     at_most(256, Part::Functions, table)?;
     function_rows(alloc, table)
@@ -77,11 +73,7 @@ fn function_row(alloc: Global, row: u64, key: &str, value: &Value) -> Result<Fun
     ensures file { IfOk result IsFunction }
 {
     let name = name_of(Part::Functions, row, key)?;
-    let place = Place {
-        part: Part::Functions,
-        row,
-        item: 0,
-    };
+    let place = Place::row(Part::Functions, row);
     let Some(file) = value.as_str() else {
         return Err(PolicyError::WrongKind(place));
     };

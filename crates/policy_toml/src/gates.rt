@@ -1,18 +1,16 @@
 //! The gates of a policy.
 
 ghost use Rattle.std.specs.Prelude.{◌≡◌, ◌≤◌, [], codes, length, IfOk, All};
-ghost use Rattle.toml.specs.Data.{get_member};
 ghost use Rattle.toml.specs.View.{view, table_view};
 ghost use Rattle.label_lattice.specs.Order.{count};
 ghost use Rattle.trapeze_io.specs.Names.{Ascend};
-ghost use Rattle.policy_toml.specs.Places.{field_of};
 ghost use Rattle.policy_toml.specs.Rows.{Reads, each_row, rows_of};
-ghost use Rattle.policy_toml.specs.Steps.{count_in, count_within, filter_at, filter_named, gate_fields, gate_row, gates_of, with_count, IsGate};
+ghost use Rattle.policy_toml.specs.Steps.{filter_at, filter_named, gate_fields, gate_row, gates_of, with_count, IsGate};
 
 use crate::error::PolicyError;
 use crate::functions::function_at;
 use crate::place::{Part, Place};
-use crate::tables::{label_at, member, name_of, row_table, text_at};
+use crate::tables::{label_at, member, name_of, number_at, row_table, text_at};
 use gate_rules::{Filter, Gate, Gates};
 use label_lattice::Lattice;
 use std::alloc::Global;
@@ -39,11 +37,7 @@ pub fn gates(
         return Ok(Gates::new(alloc));
     };
     let Some(table) = value.as_table() else {
-        return Err(PolicyError::WrongKind(Place {
-            part: Part::Gates,
-            row: 0,
-            item: 0,
-        }));
+        return Err(PolicyError::WrongKind(Place::whole(Part::Gates)));
     };
     gate_rows(alloc, lattice, functions, table)
 }
@@ -100,28 +94,23 @@ fn gate_fields(
     ensures read { Reads (λ gate. gate) (gate_fields lattice.now.names functions.now row (table_view table.now)) result }
     ensures below { IfOk result (λ gate. IsGate (count lattice.now) (length functions.now) ([], gate)) }
 {
-    let source = label_at(lattice, table, "source", field(row, 1))?;
-    let target = label_at(lattice, table, "target", field(row, 2))?;
-    let function = function_at(functions, table, "function", field(row, 3))?;
-    let filter = filter_at(table, field(row, 4))?;
-    let count = count_at(table, field(row, 5))?;
+    let source = label_at(lattice, table, "source", Place::field(Part::Gates, row, 1))?;
+    let target = label_at(lattice, table, "target", Place::field(Part::Gates, row, 2))?;
+    let function = function_at(
+        functions,
+        table,
+        "function",
+        Place::field(Part::Gates, row, 3),
+    )?;
+    let filter = filter_at(table, Place::field(Part::Gates, row, 4))?;
+    let place = Place::field(Part::Gates, row, 5);
+    let count = number_at(table, "count", (0, LARGEST_COUNT), LARGEST_COUNT, place)?;
     Ok(Gate {
         source,
         target,
         function,
         filter: with_count(filter, count),
     })
-}
-
-/// The place of a gate's field.
-fn field(row: u64, item: u32) -> Place
-    ensures { result ≡ field_of Part.Gates row item }
-{
-    Place {
-        part: Part::Gates,
-        row,
-        item,
-    }
 }
 
 /// The filter that a gate's text names, with the largest count.
@@ -146,29 +135,6 @@ fn filter_named(text: &str) -> Option<Filter>
         Some(Filter::First(LARGEST_COUNT))
     } else {
         None
-    }
-}
-
-/// The count of a gate, the largest one where none is written.
-fn count_at(table: &Table, place: Place) -> Result<u32, PolicyError>
-    ensures { Reads (λ count. count) (count_in place (get_member (codes "count") (table_view table.now))) result }
-{
-    let Some(value) = member(table, "count") else {
-        return Ok(LARGEST_COUNT);
-    };
-    let Some(number) = value.as_integer() else {
-        return Err(PolicyError::WrongKind(place));
-    };
-    count_within(number, place)
-}
-
-fn count_within(number: i64, place: Place) -> Result<u32, PolicyError>
-    ensures { Reads (λ count. count) (count_within place number) result }
-{
-    if 0 <= number && number <= LARGEST_COUNT as i64 {
-        Ok(number as u32)
-    } else {
-        Err(PolicyError::OutOfRange(place))
     }
 }
 

@@ -19,11 +19,7 @@ use trapeze_io::Bytes;
 pub fn labels(alloc: Global, root: &Table) -> Result<Vec<Bytes>, PolicyError>
     ensures { Reads (λ labels. labels.items) (labels_of (table_view root.now)) result }
 {
-    let place = Place {
-        part: Part::Labels,
-        row: 0,
-        item: 0,
-    };
+    let place = Place::whole(Part::Labels);
     let Some(value) = member(root, "labels") else {
         return Err(PolicyError::Missing(place));
     };
@@ -50,11 +46,7 @@ fn label_row(alloc: Global, row: u64, value: &Value) -> Result<Bytes, PolicyErro
     ensures { Reads (λ label. label) (label_row row (view value.now)) result }
 {
     let Some(text) = value.as_str() else {
-        return Err(PolicyError::WrongKind(Place {
-            part: Part::Labels,
-            row,
-            item: 0,
-        }));
+        return Err(PolicyError::WrongKind(Place::row(Part::Labels, row)));
     };
     Ok(Bytes::copy(alloc, text.as_bytes())?)
 }
@@ -68,11 +60,7 @@ pub fn flows(alloc: Global, root: &Table) -> Result<Vec<(Bytes, Bytes)>, PolicyE
         return Ok(Vec::new(alloc));
     };
     let Some(values) = value.as_array() else {
-        return Err(PolicyError::WrongKind(Place {
-            part: Part::Flows,
-            row: 0,
-            item: 0,
-        }));
+        return Err(PolicyError::WrongKind(Place::whole(Part::Flows)));
     };
     flow_rows(alloc, values)
 }
@@ -94,11 +82,7 @@ fn flow_row(alloc: Global, row: u64, value: &Value) -> Result<(Bytes, Bytes), Po
     ensures { Reads (λ flow. flow) (flow_row row (view value.now)) result }
 {
     let Some((from, to)) = two_texts(value) else {
-        return Err(PolicyError::WrongKind(Place {
-            part: Part::Flows,
-            row,
-            item: 0,
-        }));
+        return Err(PolicyError::WrongKind(Place::row(Part::Flows, row)));
     };
     Ok((
         Bytes::copy(alloc, from.as_bytes())?,

@@ -1,16 +1,17 @@
 //! The limits of a policy.
 
-ghost use Rattle.std.specs.Prelude.{◌≡◌, ◌<◌, ◌≤◌, None, IfOk, All, length, map, option_map, replicate, slice_set, ◌-◌};
+ghost use Rattle.std.specs.Prelude.{◌≡◌, ◌==◌, IfOk, All, find, length, option_copied};
 ghost use Rattle.toml.specs.View.{view, table_view};
 ghost use Rattle.label_lattice.specs.Order.{count};
-ghost use Rattle.label_limits.specs.Ranges.{numbers_of, AreWithin};
-ghost use Rattle.policy_toml.specs.PolicyOf.{limits_by_label};
+ghost use Rattle.label_limits.specs.Ranges.{AreWithin};
+ghost use Rattle.policy_toml.specs.Places.{field_of};
+ghost use Rattle.policy_toml.specs.PolicyOf.{limits_at, limits_by_label};
 ghost use Rattle.policy_toml.specs.Rows.{Reads, each_row, rows_of};
-ghost use Rattle.policy_toml.specs.Steps.{limits_row, limits_of, row_limits, limit, usual_numbers, IsRowOf};
+ghost use Rattle.policy_toml.specs.Steps.{limits_of, limits_row, row_limits, IsRowOf};
 
 use crate::error::PolicyError;
 use crate::place::{Part, Place};
-use crate::tables::{member, row_table};
+use crate::tables::{member, number_at, row_table};
 use label_lattice::{Label, Lattice};
 use label_limits::Limits;
 use std::alloc::Global;
@@ -26,12 +27,12 @@ pub struct Row {
 }
 
 impl Model for Row {
-    ghost use Rattle.std.specs.Prelude.{ℕ, ℤ, List};
-    ghost use Rattle.label_limits.specs.Ranges.{numbers_of};
+    ghost use Rattle.std.specs.Prelude.{ℕ};
+    ghost use Rattle.label_limits.specs.declared.limits.Limits.{Limits};
 
-    ghost Value = { ℕ × List ℤ };
+    ghost Value = { ℕ × Limits };
 
-    ghost view = { λ r. (r.label.number, numbers_of r.limits) };
+    ghost view = { λ row. (row.label.number, row.limits) };
 }
 
 /// The limits that are written, in byte order of the labels' names.
@@ -44,11 +45,7 @@ pub fn limits(alloc: Global, lattice: &Lattice, root: &Table) -> Result<Vec<Row>
         return Ok(Vec::new(alloc));
     };
     let Some(table) = value.as_table() else {
-        return Err(PolicyError::WrongKind(Place {
-            part: Part::Limits,
-            row: 0,
-            item: 0,
-        }));
+        return Err(PolicyError::WrongKind(Place::whole(Part::Limits)));
     };
     limits_rows(alloc, lattice, table)
 }
@@ -72,11 +69,7 @@ fn limits_row(lattice: &Lattice, row: u64, key: &str, value: &Value) -> Result<R
     ensures row { IfOk result (IsRowOf (count lattice.now)) }
 {
     let Some(label) = lattice.find(key.as_bytes()) else {
-        return Err(PolicyError::UnknownLabel(Place {
-            part: Part::Limits,
-            row,
-            item: 0,
-        }));
+        return Err(PolicyError::UnknownLabel(Place::row(Part::Limits, row)));
     };
     let table = row_table(Part::Limits, row, value)?;
     let limits = fields(row, table)?;
@@ -85,87 +78,72 @@ fn limits_row(lattice: &Lattice, row: u64, key: &str, value: &Value) -> Result<R
 
 #[tactic(auto, unfolding(crate::specs::Steps::row_limits))]
 fn fields(row: u64, table: &Table) -> Result<Limits, PolicyError>
-    ensures read { Reads numbers_of (row_limits row (table_view table.now)) result }
+    ensures read { Reads (λ limits. limits) (row_limits row (table_view table.now)) result }
     ensures in_range { IfOk result AreWithin }
 {
-    let limits = limit(row, 1, member(table, "quantum"), Limits::usual())?;
-    let limits = limit(row, 2, member(table, "fuel"), limits)?;
-    let limits = limit(row, 3, member(table, "pages"), limits)?;
-    let limits = limit(row, 4, member(table, "queue"), limits)?;
-    let limits = limit(row, 5, member(table, "facets"), limits)?;
-    limit(row, 6, member(table, "bytes"), limits)
+    let usual = Limits::usual();
+    let quantum = number_at(
+        table,
+        "quantum",
+        (1, 1_000_000),
+        usual.quantum,
+        place(row, 1),
+    )?;
+    let fuel = number_at(table, "fuel", (1, 1_000_000_000), usual.fuel, place(row, 2))?;
+    let pages = number_at(table, "pages", (0, 65_536), usual.pages, place(row, 3))?;
+    let queue = number_at(table, "queue", (1, 65_536), usual.queue, place(row, 4))?;
+    let facets = number_at(table, "facets", (0, 1_000_000), usual.facets, place(row, 5))?;
+    let bytes = number_at(
+        table,
+        "bytes",
+        (0, 1_073_741_824),
+        usual.bytes,
+        place(row, 6),
+    )?;
+    Ok(Limits {
+        quantum,
+        fuel,
+        pages,
+        queue,
+        facets,
+        bytes,
+    })
 }
 
-fn limit(row: u64, item: u32, value: Option<&Value>, limits: Limits) -> Result<Limits, PolicyError>
-    requires some { 0 < item }
-    requires six { item ≤ 6 }
-    requires in_range { AreWithin limits }
-    ensures read { Reads numbers_of (limit (record { part = Part.Limits; row = row; item = item }) (option_map (λ v. view v.now) value.entry) (numbers_of limits)) result }
-    ensures in_range { IfOk result AreWithin }
+/// The place of a limit in its row.
+fn place(row: u64, limit: u32) -> Place
+    ensures { result ≡ field_of Part.Limits row limit }
 {
-    let Some(value) = value else {
-        return Ok(limits);
-    };
-    let place = Place {
-        part: Part::Limits,
-        row,
-        item,
-    };
-    let Some(number) = value.as_integer() else {
-        return Err(PolicyError::WrongKind(place));
-    };
-    match Limits::checked(replaced(numbers_of(&limits), item, number)) {
-        Ok(limits) => Ok(limits),
-        Err(_) => Err(PolicyError::OutOfRange(place)),
-    }
+    Place::field(Part::Limits, row, limit)
 }
 
-fn numbers_of(limits: &Limits) -> [i64; 6]
-    ensures { result ≡ numbers_of limits.now }
-{
-    [
-        limits.quantum as i64,
-        limits.fuel as i64,
-        limits.pages as i64,
-        limits.queue as i64,
-        limits.facets as i64,
-        limits.bytes as i64,
-    ]
-}
-
-fn replaced(mut numbers: [i64; 6], item: u32, number: i64) -> [i64; 6]
-    requires some { 0 < item }
-    requires six { item ≤ 6 }
-    ensures { result ≡ slice_set numbers (item - 1) number }
-{
-    numbers[item as usize - 1] = number;
-    numbers
-}
-
-/// The limits of each label, by its number: the usual ones, and in their place those that are written.
+/// The limits of each label, by its number: those that are written, or the usual ones.
 pub fn all_limits(alloc: Global, lattice: &Lattice, rows: &[Row]) -> Result<Vec<Limits>, NoMemory>
     requires { All (IsRowOf (count lattice.now)) rows.now }
     ensures limits { IfOk result (λ all. all.items ≡ limits_by_label (count lattice.now) rows.now) }
     ensures in_range { IfOk result (λ all. All AreWithin all.items) }
     ensures count { IfOk result (λ all. length all.items ≡ count lattice.now) }
 {
-    let mut all = usual_limits(alloc, lattice.count())?;
-    'rows: for row in rows {
-        all[row.label.number as usize] = row.limits;
-    }
-    Ok(all)
-}
-
-fn usual_limits(alloc: Global, labels: u8) -> Result<Vec<Limits>, NoMemory>
-    ensures limits { IfOk result (λ all. map numbers_of all.items ≡ replicate labels usual_numbers) }
-    ensures in_range { IfOk result (λ all. All AreWithin all.items) }
-    ensures count { IfOk result (λ all. length all.items ≡ labels) }
-{
     let mut all = Vec::new(alloc);
-    'labels: for _count in 0..labels {
-        if let Err(_) = all.push(Limits::usual()) {
+    'labels: for label in 0..lattice.count() {
+        if let Err(_) = all.push(limits_at(rows, label)) {
             return Err(NoMemory);
         }
     }
     Ok(all)
+}
+
+fn row_at(rows: &[Row], label: u8) -> Option<&Row>
+    ensures { option_copied result ≡ find (λ row. row.0 == label) rows.now }
+{
+    rows.iter().find(|row| row.label.number == label)
+}
+
+fn limits_at(rows: &[Row], label: u8) -> Limits
+    ensures { result ≡ limits_at rows.now label }
+{
+    match row_at(rows, label) {
+        Some(row) => row.limits,
+        None => Limits::usual(),
+    }
 }

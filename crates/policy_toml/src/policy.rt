@@ -1,8 +1,8 @@
 //! A policy.
 
-ghost use Rattle.std.specs.Prelude.{◌≡◌, ◌<◌, Some, length, map, slice_get, string_bytes};
+ghost use Rattle.std.specs.Prelude.{◌≡◌, ◌<◌, Some, length, slice_get};
 ghost use Rattle.label_lattice.specs.Order.{count};
-ghost use Rattle.policy_toml.specs.Parts.{IsPolicy};
+ghost use Rattle.policy_toml.specs.Parts.{IsPolicy, parts_of};
 
 use gate_rules::Gates;
 use label_lattice::{Label, Lattice};
@@ -26,14 +26,13 @@ pub struct Policy {
 }
 
 impl Model for Policy {
-    ghost use Rattle.std.specs.Prelude.{map, string_bytes};
-    ghost use Rattle.policy_toml.specs.Parts.{Parts, IsPolicy};
+    ghost use Rattle.policy_toml.specs.Parts.{IsPolicy, Parts, parts_of};
 
     ghost Value = { Parts };
 
-    ghost view = { λ p. record { lattice = p.lattice; limits = p.limits.items; channels = p.channels; functions = p.functions.items; files = map (λ file. string_bytes file) p.files.items; clients = p.clients.items; clearances = map (λ label. label.number) p.clearances.items; gates = p.gates } };
+    ghost view = { λ p. parts_of p.lattice p.limits.items p.channels p.functions.items p.files.items p.clients.items p.clearances.items p.gates };
 
-    ghost invariant = { λ p. IsPolicy (record { lattice = p.lattice; limits = p.limits.items; channels = p.channels; functions = p.functions.items; files = map (λ file. string_bytes file) p.files.items; clients = p.clients.items; clearances = map (λ label. label.number) p.clearances.items; gates = p.gates }) };
+    ghost invariant = { λ p. IsPolicy (parts_of p.lattice p.limits.items p.channels p.functions.items p.files.items p.clients.items p.clearances.items p.gates) };
 }
 
 impl Policy {
@@ -49,8 +48,8 @@ impl Policy {
         clearances: Vec<Label>,
         gates: Gates,
     ) -> Policy
-        requires { IsPolicy (record { lattice = lattice; limits = limits.items; channels = channels; functions = functions.items; files = map (λ file. string_bytes file) files.items; clients = clients.items; clearances = map (λ label. label.number) clearances.items; gates = gates }) }
-        ensures { result ≡ record { lattice = lattice; limits = limits.items; channels = channels; functions = functions.items; files = map (λ file. string_bytes file) files.items; clients = clients.items; clearances = map (λ label. label.number) clearances.items; gates = gates } }
+        requires { IsPolicy (parts_of lattice limits.items channels functions.items files.items clients.items clearances.items gates) }
+        ensures { result ≡ parts_of lattice limits.items channels functions.items files.items clients.items clearances.items gates }
     {
         Policy {
             lattice,

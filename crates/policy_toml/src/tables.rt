@@ -1,11 +1,12 @@
 //! Tables, and their members by key.
 
-ghost use Rattle.std.specs.Prelude.{◌≡◌, Some, option_map, IfOk, ◌<◌};
+ghost use Rattle.std.specs.Prelude.{◌≡◌, ◌<◌, pos, true, Some, option_map, IfOk};
 ghost use Rattle.toml.specs.Data.{get_member};
 ghost use Rattle.toml.specs.View.{view, table_view};
 ghost use Rattle.label_lattice.specs.Order.{count};
+ghost use Rattle.label_limits.specs.Ranges.{is_within};
 ghost use Rattle.policy_toml.specs.Rows.{is_key_of, extra_key, row_table, text_at, Reads};
-ghost use Rattle.policy_toml.specs.Steps.{at_most, name_of, label_at};
+ghost use Rattle.policy_toml.specs.Steps.{at_most, label_at, name_of, number_at, number_within};
 
 use crate::error::PolicyError;
 use crate::place::{Part, Place};
@@ -80,7 +81,7 @@ pub fn extra_key(part: Part, table: &Table) -> Option<u64>
 pub fn row_table<'a>(part: Part, row: u64, value: &'a Value) -> Result<&'a Table, PolicyError>
     ensures { Reads (λ table. table_view table.now) (row_table part row (view value.now)) result }
 {
-    let place = Place { part, row, item: 0 };
+    let place = Place::row(part, row);
     let Some(table) = value.as_table() else {
         return Err(PolicyError::WrongKind(place));
     };
@@ -103,6 +104,37 @@ pub fn text_at<'a>(table: &'a Table, key: &str, place: Place) -> Result<&'a str,
     }
 }
 
+/// The whole number at a key, from the range's first number to its second; the default where the key is not written.
+pub fn number_at(
+    table: &Table,
+    key: &str,
+    range: (u32, u32),
+    default: u32,
+    place: Place,
+) -> Result<u32, PolicyError>
+    requires default { is_within range (pos default) ≡ true }
+    ensures read { Reads (λ number. number) (number_at key.now range default place (table_view table.now)) result }
+    ensures within { IfOk result (λ number. is_within range (pos number) ≡ true) }
+{
+    let Some(value) = member(table, key) else {
+        return Ok(default);
+    };
+    let Some(number) = value.as_integer() else {
+        return Err(PolicyError::WrongKind(place));
+    };
+    number_within(range, place, number)
+}
+
+fn number_within(range: (u32, u32), place: Place, number: i64) -> Result<u32, PolicyError>
+    ensures read { Reads (λ number. number) (number_within range place number) result }
+    ensures within { IfOk result (λ number. is_within range (pos number) ≡ true) }
+{
+    match u32::try_from(number) {
+        Ok(number) if range.0 <= number && number <= range.1 => Ok(number),
+        _ => Err(PolicyError::OutOfRange(place)),
+    }
+}
+
 /// Tests that a part has at most so many rows.
 pub fn at_most(most: usize, part: Part, table: &Table) -> Result<(), PolicyError>
     ensures { Reads (λ done. done) (at_most most part (table_view table.now)) result }
@@ -110,11 +142,7 @@ pub fn at_most(most: usize, part: Part, table: &Table) -> Result<(), PolicyError
     if table.len() <= most {
         Ok(())
     } else {
-        Err(PolicyError::OutOfRange(Place {
-            part,
-            row: 0,
-            item: 0,
-        }))
+        Err(PolicyError::OutOfRange(Place::whole(part)))
     }
 }
 
@@ -125,7 +153,7 @@ pub fn name_of(part: Part, row: u64, key: &str) -> Result<Name, PolicyError>
 {
     match Name::read(key.as_bytes()) {
         Some(name) => Ok(name),
-        None => Err(PolicyError::BadName(Place { part, row, item: 0 })),
+        None => Err(PolicyError::BadName(Place::row(part, row))),
     }
 }
 

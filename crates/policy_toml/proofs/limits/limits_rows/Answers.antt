@@ -1,7 +1,8 @@
-use Rattle.std.proofs.Common.{◌≡◌, ℕ, ◌+◌, ℤ, sym, subst, List, [], ◌∷◌, ◌++◌, Ok, length, string_bytes, ap, rules}
+use Rattle.std.proofs.Common.{◌≡◌, ℕ, ◌+◌, sym, subst, List, [], ◌∷◌, ◌++◌, Ok, length, string_bytes, ap, rules}
 use Rattle.std.specs.Prelude.{All}
 use Rattle.toml.specs.View.{view, members_view}
 use Rattle.label_lattice.specs.Order.{count}
+use Rattle.label_limits.specs.declared.limits.Limits.{Limits}
 use Rattle.policy_toml.specs.Rows.{rows_of}
 use Rattle.policy_toml.specs.Steps.{limits_row, IsRowOf}
 use Rattle.policy_toml.proofs.Rows.{SoFar-begin, SoFar-next, all_none, all_more}
@@ -13,7 +14,7 @@ rows-init c =
       tt,
       tt,
       SoFar-begin (limits_row c.args.lattice.now.names) (rows_of (members_view c.args.table.now.entries)) (rows_of (members_view c.into_iter-key-iterator.result)) c.new-limits.result.items (ap (λ es. rows_of (members_view es)) given.0) c.new-limits.ensures.items,
-      subst (λ (x : List (ℕ × List ℤ)). All (IsRowOf (count c.args.lattice.now)) x) (sym c.new-limits.ensures.items) (all_none (IsRowOf (count c.args.lattice.now))),
+      subst (λ (x : List (ℕ × Limits)). All (IsRowOf (count c.args.lattice.now)) x) (sym c.new-limits.ensures.items) (all_none (IsRowOf (count c.args.lattice.now))),
     )
 
 pub rows-preserved : goal.rows-preserved
@@ -28,5 +29,5 @@ rows-preserved c =
       tt,
       tt,
       SoFar-next (limits_row c.args.lattice.now.names) (rows_of (members_view c.args.table.now.entries)) c.rows.key-iterator c.next.new.self c.in-Some.key.now c.in-Some.value.now c.rows.limits.items c.push.new.self.items c.in_ok-row.row c.rows.invariant.2 step is pushed,
-      subst (λ (x : List (ℕ × List ℤ)). All (IsRowOf (count c.args.lattice.now)) x) (sym pushed) (all_more (IsRowOf (count c.args.lattice.now)) c.rows.limits.items c.in_ok-row.row c.rows.invariant.3 c.in_ok-row.ensures.row),
+      subst (λ (x : List (ℕ × Limits)). All (IsRowOf (count c.args.lattice.now)) x) (sym pushed) (all_more (IsRowOf (count c.args.lattice.now)) c.rows.limits.items c.in_ok-row.row c.rows.invariant.3 c.in_ok-row.ensures.row),
     )

@@ -1,8 +1,9 @@
-use Rattle.std.proofs.Common.{◌≡◌, ℕ, ℤ, List, Ok, length, map, string_bytes, refl, sym, ◌∙◌, ap, subst}
+use Rattle.std.proofs.Common.{◌≡◌, ℕ, List, Ok, length, map, string_bytes, refl, sym, ◌∙◌, ap, subst}
 use Rattle.std.specs.Prelude.{All}
 use Rattle.toml.specs.View.{table_view}
 use Rattle.label_lattice.specs.Order.{count}
 use Rattle.label_lattice.specs.Faults.{Denotes}
+use Rattle.label_limits.specs.declared.limits.Limits.{Limits}
 use Rattle.policy_toml.specs.Steps.{lattice_of, limits_of, channels_of, clients_of, gates_of, IsRowOf}
 use Rattle.trapeze_io.specs.Names.{Ascend}
 use Rattle.policy_toml.specs.PolicyOf.{limits_by_label}
@@ -10,7 +11,7 @@ use Rattle.policy_toml.proofs.Whole.{is_policy, accepted}
 use Rattle.policy_toml.proofs.read.read_table.Goals as goal
 
 pub all_limits-requires : goal.all_limits-requires
-all_limits-requires c = subst (λ (x : List (ℕ × List ℤ)). All (IsRowOf (count c.in_ok-lattice.lattice)) x) (sym c.deref-5.ensures.value) c.in_ok-limits.ensures.rows
+all_limits-requires c = subst (λ (x : List (ℕ × Limits)). All (IsRowOf (count c.in_ok-lattice.lattice)) x) (sym c.deref-5.ensures.value) c.in_ok-limits.ensures.rows
 
 pub from_parts-requires : goal.from_parts-requires
 from_parts-requires c =

@@ -6,4 +6,4 @@ pub returns-then-len-most : goal.returns-then-len-most
 returns-then-len-most c = few_rows c.args.most c.args.part c.args.table.now.entries (let len = c.len.ensures.len in omega arith)
 
 pub returns-else-len-most : goal.returns-else-len-most
-returns-else-len-most c = λ other. many_rows c.args.most c.args.part c.args.table.now.entries (let len = c.len.ensures.len in omega arith)
+returns-else-len-most c = λ other. rw c.whole.ensures (many_rows c.args.most c.args.part c.args.table.now.entries (let len = c.len.ensures.len in omega arith))
