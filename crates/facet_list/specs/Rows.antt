@@ -5,6 +5,7 @@ use Rattle.std.specs.declared.cmp.Ordering.{Ordering}
 use Rattle.std.specs.Ordering.{nat_cmp}
 use Rattle.std.specs.Cmp.Lexicographic.{slice_cmp}
 use Rattle.std.specs.FinMap as finite
+use Rattle.trapeze_io.specs.Sizes.{IsKey, longest_value}
 use Rattle.facet_list.specs.Store.{Write, Slot, Facet, slot_cmp, last_value}
 
 -- a label and its value or absent
@@ -62,18 +63,14 @@ facets_of e = map (λ m. ((e.0, m.0), m.1)) e.1
 abbrev pub facets_in : Rows → List Facet
 facets_in rows = finite.entries (finite.from_entries {R = slot_cmp} (flat_map facets_of (finite.entries rows)))
 
--- a key has at most 1,024 bytes
-abbrev pub IsKey : List ℕ → Type 0
-IsKey key = length key ≤ 1024
-
 -- the length of a value, 0 for absent
 abbrev pub value_length : Option (List ℕ) → ℕ
 value_length None = 0
 value_length (Some v) = length v
 
--- a value has at most 65,536 bytes
+-- a value is no longer than a value may be
 abbrev pub IsValue : Option (List ℕ) → Type 0
-IsValue value = value_length value ≤ 65536
+IsValue value = value_length value ≤ longest_value
 
 -- the key and the value are within their sizes
 pub record IsSized (key : List ℕ) (value : Option (List ℕ)) : Type 0 where

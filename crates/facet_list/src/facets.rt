@@ -5,7 +5,8 @@ ghost use Rattle.std.specs.Option.{option_copied};
 ghost use Rattle.label_lattice.specs.Order.{flows, count};
 ghost use Rattle.label_limits.specs.declared.limits.Limits.{Limits as LabelLimits};
 ghost use Rattle.facet_list.specs.Store.{written};
-ghost use Rattle.facet_list.specs.Rows.{Rows, row_of, rows_after, read_row, IsKey, IsValue, IsSized, IsStore};
+ghost use Rattle.facet_list.specs.Rows.{Rows, row_of, rows_after, read_row, IsValue, IsSized, IsStore};
+ghost use Rattle.trapeze_io.specs.Sizes.{IsKey};
 ghost use Rattle.facet_list.specs.Room.{fits_in};
 ghost use Rattle.facet_list.specs.Walk.{slot_after, facet_lent, IsNext};
 

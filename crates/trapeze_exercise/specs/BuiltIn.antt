@@ -1,6 +1,5 @@
 -- The policy and the modules of the exercise.
-use Rattle.std.specs.Prelude.{ℕ, List, [], ◌∷◌, ℤ, map, codes}
-use Rattle.label_limits.specs.Ranges.{numbers_of}
+use Rattle.std.specs.Prelude.{ℕ, List, [], ◌∷◌, map, codes}
 use Rattle.label_limits.specs.declared.limits.Limits.{Limits}
 use Rattle.labelled_channel.specs.declared.channels.Channel.{Channel}
 use Rattle.policy_toml.specs.PolicyOf.{Written}
@@ -23,8 +22,8 @@ flows =
 abbrev pub narrow : Limits
 narrow = record { quantum = 8; fuel = 100; pages = 4; queue = 16; facets = 8; bytes = 64 }
 
-abbrev pub limits : List (ℕ × List ℤ)
-limits = map (λ label. (label, numbers_of narrow)) (0 ∷ 1 ∷ 2 ∷ 3 ∷ [])
+abbrev pub limits : List (ℕ × Limits)
+limits = map (λ label. (label, narrow)) (0 ∷ 1 ∷ 2 ∷ 3 ∷ [])
 
 -- the functions with their files
 abbrev pub functions : List (List ℕ × List ℕ)
