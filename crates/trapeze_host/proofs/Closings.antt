@@ -1,11 +1,14 @@
 -- The front of a list goes, or takes its place at the back.
-use Rattle.std.proofs.Common.{◌≡◌, ℕ, suc, ◌<◌, true, false, cond, List, [], ◌∷◌, ◌++◌, length, map, drop, take, Some, refl, sym, ◌∙◌, ap, subst, arith}
+use Rattle.std.proofs.Common.{◌≡◌, ℕ, suc, ◌+◌, ◌<◌, Bool, true, false, cond, List, [], ◌∷◌, ◌++◌, length, map, drop, take, Option, Some, refl, sym, ◌∙◌, ap, subst, arith}
 use Rattle.std.specs.Prelude.{All, is_some, slice_get}
 use Rattle.std.proofs.Math.ListN.{set}
 use Rattle.std.proofs.lemmas.List.{drop-map, map-append, get_or-set_same, set-set}
 use Rattle.facet_list.specs.Rows.{Rows}
 use Rattle.label_queues.specs.Lists.{Lists, list_of, with_list}
+use Rattle.trapeze_lines.specs.declared.outcome.Cause.TheVariants.{Fuel}
+use Rattle.trapeze_lines.specs.declared.outcome.Outcome.TheVariants as outcome
 use Rattle.wasm_semantics.specs.Threads.{Thread}
+use Rattle.host_rules.specs.Rules.{limits_at}
 use Rattle.host_rules.specs.States as rules
 use Rattle.host_rules.specs.States.{State, push, leave, set_at}
 use Rattle.trapeze_host.specs.declared.kept.Activation.{Activation}
@@ -14,9 +17,10 @@ use Rattle.sandbox.specs.declared.sandboxes.Sandbox.{Sandbox}
 use Rattle.sandbox.specs.Threads.{IsReady}
 use Rattle.trapeze_host.specs.declared.requests.Requests.{Requests}
 use Rattle.trapeze_host.specs.declared.runs.Run.{Run}
-use Rattle.trapeze_host.specs.Loans.{Loan, module_in}
+use Rattle.trapeze_host.specs.declared.runs.Ending.TheVariants as ending
+use Rattle.trapeze_host.specs.Loans.{Loan, rules_in, module_in}
 use Rattle.trapeze_host.specs.Keeping.{activation_of, Keeps, IsFit}
-use Rattle.trapeze_host.specs.Turning.{IsRun}
+use Rattle.trapeze_host.specs.Turning.{run_ends, run_waits, run_closes, IsRun}
 use Rattle.trapeze_host.proofs.Keeping.{keeps_list, list_here}
 use Rattle.trapeze_host.proofs.Tables.{by_same}
 
@@ -102,3 +106,13 @@ fit_run loan requests r sandbox used is ready = record {
   where
     same : (x : Sandbox) → Some sandbox ≡ Some x → sandbox ≡ x
     same x e = cc
+
+-- the units of a run are used: so is all its fuel, or it waits
+module _ (loan : Loan) (r : Run) (before : Option Thread) (given : ℕ) (sandbox : Sandbox) (s : State Thread) where
+  pub fuel_used : r.used + given ≡ (limits_at (rules_in loan) r.at.number).fuel → run_closes loan r before given (ending.Spent sandbox) s ≡ run_ends loan r before (outcome.Trapped Fuel) s
+  fuel_used e = by_same (λ (b : Bool). cond {A = rules.Moved Thread} b (run_ends loan r before (outcome.Trapped Fuel) s) (run_waits loan r before given sandbox s) ≡ run_ends loan r before (outcome.Trapped Fuel) s)
+      (r.used + given) (limits_at (rules_in loan) r.at.number).fuel (λ e. refl) (λ n. absurd (n e))
+
+  pub fuel_left : (r.used + given ≡ (limits_at (rules_in loan) r.at.number).fuel → ⊥) → run_closes loan r before given (ending.Spent sandbox) s ≡ run_waits loan r before given sandbox s
+  fuel_left n = by_same (λ (b : Bool). cond {A = rules.Moved Thread} b (run_ends loan r before (outcome.Trapped Fuel) s) (run_waits loan r before given sandbox s) ≡ run_waits loan r before given sandbox s)
+      (r.used + given) (limits_at (rules_in loan) r.at.number).fuel (λ e. absurd (n e)) (λ n. refl)

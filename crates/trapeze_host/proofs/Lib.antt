@@ -10,7 +10,9 @@ pub mod Replies
 pub mod Performing
 pub mod Closings
 pub mod Stints
+pub mod Calling
 pub mod Going
+pub mod Owing
 pub mod Running
 pub mod Puts
 pub mod Asking

@@ -1,5 +1,6 @@
 -- What the host keeps, and the state that it stands for.
-use Rattle.std.specs.Prelude.{◌≡◌, ℕ, ◌<◌, ◌≤◌, ◌+◌, ◌^◌, Bool, false, List, ◌++◌, All, Result, MatchResult, map, option_map, length, slice_index}
+use Rattle.std.specs.Prelude.{◌≡◌, ℕ, ◌<◌, ◌≤◌, ◌+◌, ◌^◌, Bool, false, List, ◌++◌, All, Result, MatchResult}
+use Rattle.std.specs.Prelude.{map, option_map, length, slice_index}
 use Rattle.std.specs.Option.{ForSome}
 use Rattle.trapeze_io.specs.declared.failures.NoMemory.{NoMemory}
 use Rattle.label_lattice.specs.Order.{count}
@@ -55,13 +56,29 @@ pub record Made {F : Type 0} (rows : F → Rows) (loan : Loan) (m : rules.Moved 
   pub lines : after ≡ before ++ m.lines
 
 -- the move was made; or, out of memory, the first of its lines were appended
-abbrev pub Makes : {F X : Type 0} → (F → Rows) → Loan → Result X NoMemory → rules.Moved Thread → Kept F → List Line → List Line → Type 0
-Makes rows loan result m k before after = MatchResult result (λ _. Made rows loan m k before after) (λ _. AddsPart m.lines before after)
+abbrev pub Makes :
+    {F X : Type 0} → (F → Rows) → Loan → Result X NoMemory → rules.Moved Thread → Kept F → List Line → List Line → Type 0
+Makes rows loan result m k before after =
+    MatchResult result (λ _. Made rows loan m k before after) (λ _. AddsPart m.lines before after)
 
 -- the store has the write of the move already, and all else that is kept stands for this state
 pub record IsWritten {F : Type 0} (rows : F → Rows) (loan : Loan) (k : Kept F) (s : rules.State Thread) (m : rules.Moved Thread) : Type 0 where
   pub store : rows k.facets ≡ rows_of m.state.store
   pub state : state_of loan s.store k ≡ s
+
+-- from each state that what is kept stood for, its move was made; or, out of memory, the first of its lines were appended
+abbrev pub MakesFrom :
+    {F X : Type 0} → (F → Rows) → Loan → Result X NoMemory → Kept F → Kept F → List Line → List Line
+    → (rules.State Thread → rules.Moved Thread) → Type 0
+MakesFrom rows loan result k j before after move =
+    (s : rules.State Thread) → Keeps rows loan k s → Makes rows loan result (move s) j before after
+
+-- the same of a move whose write the store has already
+abbrev pub CompletesFrom :
+    {F X : Type 0} → (F → Rows) → Loan → Result X NoMemory → Kept F → Kept F → List Line → List Line
+    → (rules.State Thread → rules.Moved Thread) → Type 0
+CompletesFrom rows loan result k j before after move =
+    (s : rules.State Thread) → IsWritten rows loan k s (move s) → Makes rows loan result (move s) j before after
 
 -- a request that was taken, of one of the clients
 pub record IsServed (loan : Loan) (requests : Requests) (x : Serving) : Type 0 where

@@ -1,18 +1,16 @@
 //! What the host does with the effect of a host call, whose write is in the store already.
 
-ghost use Rattle.std.specs.Prelude.{◌≡◌, ◌<◌, ◌≤◌, ◌&&◌, not, Option, Some, None, length, option_map};
+ghost use Rattle.std.specs.Prelude.{◌≡◌, ◌<◌, ◌&&◌, not, Option, Some, length, option_map};
 ghost use Rattle.label_lattice.specs.Order.{count};
 ghost use Rattle.wasm_semantics.specs.Threads.{Thread};
 ghost use Rattle.host_rules.specs.Rules.{clearance};
-ghost use Rattle.host_rules.specs.States.{State, then_lines};
-ghost use Rattle.host_rules.specs.Calls.{answer_lines};
-ghost use Rattle.host_rules.specs.Effects.{reply as replied};
-ghost use Rattle.shim_calls.specs.Performing.{made, IsFitEffect};
+ghost use Rattle.shim_calls.specs.Performing.{IsFitEffect};
 ghost use Rattle.trapeze_host.specs.Adding.{KeepsLabelled};
 ghost use Rattle.trapeze_host.specs.Loans.{rules_in};
 ghost use Rattle.trapeze_host.specs.Requests.{request_of, answered_of};
-ghost use Rattle.trapeze_host.specs.Keeping.{serving_of, Keeps, Makes, IsWritten, IsServed, IsSound, HasSameNumbers, KeepsMembers};
-ghost use Rattle.trapeze_host.specs.Turning.{run_of, IsRun};
+ghost use Rattle.trapeze_host.specs.Keeping.{serving_of, MakesFrom, CompletesFrom};
+ghost use Rattle.trapeze_host.specs.Keeping.{IsServed, IsSound, HasSameNumbers, KeepsMembers};
+ghost use Rattle.trapeze_host.specs.Turning.{answering, run_makes, IsRun};
 
 use crate::kept::{Activation, Kept, Serving};
 use crate::lent::Lent;
@@ -31,7 +29,8 @@ impl<F: Facets> Kept<F> {
         requires sound { IsSound F.limits lent.now self.now }
         requires at { at.number < count lent.now.policy.lattice }
         requires served { IsServed lent.now self.now.requests serving.now }
-        ensures { result ≡ ((rules_in lent.now).flows at.number (clearance (rules_in lent.now) serving.now.client)
+        ensures { result ≡
+            ((rules_in lent.now).flows at.number (clearance (rules_in lent.now) serving.now.client)
             && not (answered_of self.now.requests (request_of serving.now.request))) }
     {
         lent.flows(at, lent.clearance(serving.client))
@@ -50,9 +49,8 @@ impl<F: Facets> Kept<F> {
         requires sound { IsSound F.limits lent.now self.old }
         requires at { at.number < count lent.now.policy.lattice }
         requires served { IsServed lent.now self.old.requests serving.now }
-        ensures moved { (s : State Thread) → Keeps F.rows lent.now self.old s →
-            Makes F.rows lent.now result (then_lines (answer_lines (rules_in lent.now) at.number (Some (serving_of serving.now)) bytes)
-            (replied (rules_in lent.now) at.number (Some (serving_of serving.now)) bytes s)) self.new lines.old lines.new }
+        ensures moved { MakesFrom F.rows lent.now result self.old self.new lines.old lines.new
+            (answering lent.now at.number (Some (serving_of serving.now)) bytes) }
         ensures sound { IsSound F.limits lent.now self.new }
         ensures labelled { KeepsLabelled (count lent.now.policy.lattice) lines.old lines.new }
         ensures numbers { HasSameNumbers self.old self.new }
@@ -88,9 +86,8 @@ impl<F: Facets> Kept<F> {
     ) -> Result<(), NoMemory>
         requires sound { IsSound F.limits lent.now self.old }
         requires run { IsRun lent.now self.old.requests run.now }
-        ensures moved { (s : State Thread) → Keeps F.rows lent.now self.old s →
-            Makes F.rows lent.now result (then_lines (answer_lines (rules_in lent.now) run.now.at.number (option_map serving_of run.now.serves) bytes)
-            (replied (rules_in lent.now) run.now.at.number (option_map serving_of run.now.serves) bytes s)) self.new lines.old lines.new }
+        ensures moved { MakesFrom F.rows lent.now result self.old self.new lines.old lines.new
+            (answering lent.now run.now.at.number (option_map serving_of run.now.serves) bytes) }
         ensures sound { IsSound F.limits lent.now self.new }
         ensures labelled { KeepsLabelled (count lent.now.policy.lattice) lines.old lines.new }
         ensures numbers { HasSameNumbers self.old self.new }
@@ -114,9 +111,11 @@ impl<F: Facets> Kept<F> {
     ) -> Result<(), NoMemory>
         requires sound { IsSound F.limits lent.now self.old }
         requires run { IsRun lent.now self.old.requests run.now }
-        requires effect { IsFitEffect (count lent.now.policy.lattice) (length lent.now.policy.functions) (Some (Effect.Sent channel bytes to)) }
-        ensures moved { (before : Option Thread) (s : State Thread) → Keeps F.rows lent.now self.old s →
-            Makes F.rows lent.now result (made (rules_in lent.now) run.now.at.number (run_of before run.now) (Some (Effect.Sent channel bytes to)) s) self.new lines.old lines.new }
+        requires effect { IsFitEffect (count lent.now.policy.lattice) (length lent.now.policy.functions)
+            (Some (Effect.Sent channel bytes to)) }
+        ensures moved { (before : Option Thread) →
+            MakesFrom F.rows lent.now result self.old self.new lines.old lines.new
+            (run_makes lent.now run.now before (Some (Effect.Sent channel bytes to))) }
         ensures sound { IsSound F.limits lent.now self.new }
         ensures labelled { KeepsLabelled (count lent.now.policy.lattice) lines.old lines.new }
         ensures numbers { HasSameNumbers self.old self.new }
@@ -152,9 +151,11 @@ impl<F: Facets> Kept<F> {
     ) -> Result<(), NoMemory>
         requires sound { IsSound F.limits lent.now self.old }
         requires run { IsRun lent.now self.old.requests run.now }
-        requires effect { IsFitEffect (count lent.now.policy.lattice) (length lent.now.policy.functions) (Some (Effect.Released gate bytes)) }
-        ensures moved { (before : Option Thread) (s : State Thread) → Keeps F.rows lent.now self.old s →
-            Makes F.rows lent.now result (made (rules_in lent.now) run.now.at.number (run_of before run.now) (Some (Effect.Released gate bytes)) s) self.new lines.old lines.new }
+        requires effect { IsFitEffect (count lent.now.policy.lattice) (length lent.now.policy.functions)
+            (Some (Effect.Released gate bytes)) }
+        ensures moved { (before : Option Thread) →
+            MakesFrom F.rows lent.now result self.old self.new lines.old lines.new
+            (run_makes lent.now run.now before (Some (Effect.Released gate bytes))) }
         ensures sound { IsSound F.limits lent.now self.new }
         ensures labelled { KeepsLabelled (count lent.now.policy.lattice) lines.old lines.new }
         ensures numbers { HasSameNumbers self.old self.new }
@@ -182,9 +183,9 @@ impl<F: Facets> Kept<F> {
         requires sound { IsSound F.limits lent.now self.old }
         requires run { IsRun lent.now self.old.requests run.now }
         requires effect { IsFitEffect (count lent.now.policy.lattice) (length lent.now.policy.functions) (Some effect) }
-        ensures moved { (before : Option Thread) (s : State Thread) →
-            IsWritten F.rows lent.now self.old s (made (rules_in lent.now) run.now.at.number (run_of before run.now) (Some effect) s) →
-            Makes F.rows lent.now result (made (rules_in lent.now) run.now.at.number (run_of before run.now) (Some effect) s) self.new lines.old lines.new }
+        ensures moved { (before : Option Thread) →
+            CompletesFrom F.rows lent.now result self.old self.new lines.old lines.new
+            (run_makes lent.now run.now before (Some effect)) }
         ensures sound { IsSound F.limits lent.now self.new }
         ensures labelled { KeepsLabelled (count lent.now.policy.lattice) lines.old lines.new }
         ensures numbers { HasSameNumbers self.old self.new }
@@ -211,9 +212,9 @@ impl<F: Facets> Kept<F> {
         requires sound { IsSound F.limits lent.now self.old }
         requires run { IsRun lent.now self.old.requests run.now }
         requires effect { IsFitEffect (count lent.now.policy.lattice) (length lent.now.policy.functions) effect }
-        ensures moved { (before : Option Thread) (s : State Thread) →
-            IsWritten F.rows lent.now self.old s (made (rules_in lent.now) run.now.at.number (run_of before run.now) effect s) →
-            Makes F.rows lent.now result (made (rules_in lent.now) run.now.at.number (run_of before run.now) effect s) self.new lines.old lines.new }
+        ensures moved { (before : Option Thread) →
+            CompletesFrom F.rows lent.now result self.old self.new lines.old lines.new
+            (run_makes lent.now run.now before effect) }
         ensures sound { IsSound F.limits lent.now self.new }
         ensures labelled { KeepsLabelled (count lent.now.policy.lattice) lines.old lines.new }
         ensures numbers { HasSameNumbers self.old self.new }

@@ -4,13 +4,11 @@ ghost use Rattle.std.specs.Prelude.{◌≡◌, ◌<◌, ◌+◌, ◌^◌, ℕ, O
 ghost use Rattle.label_lattice.specs.Order.{count};
 ghost use Rattle.label_queues.specs.Lists.{list_of};
 ghost use Rattle.wasm_semantics.specs.Threads.{Thread};
-ghost use Rattle.sandbox.specs.Threads.{thread_of, IsReady};
-ghost use Rattle.host_rules.specs.States.{State};
-ghost use Rattle.host_rules.specs.Turns.{Raised, Spent, ends, waits, closing};
+ghost use Rattle.sandbox.specs.Threads.{IsReady};
 ghost use Rattle.trapeze_host.specs.Adding.{KeepsLabelled};
-ghost use Rattle.trapeze_host.specs.Loans.{rules_in, module_in};
-ghost use Rattle.trapeze_host.specs.Keeping.{Keeps, Makes, IsSound, HasSameNumbers};
-ghost use Rattle.trapeze_host.specs.Turning.{run_of, end_of, IsRun, IsFitEnd};
+ghost use Rattle.trapeze_host.specs.Loans.{module_in};
+ghost use Rattle.trapeze_host.specs.Keeping.{MakesFrom, IsSound, HasSameNumbers};
+ghost use Rattle.trapeze_host.specs.Turning.{run_ends, run_waits, run_closes, IsRun, IsFitEnd};
 
 use crate::fronts::replace_front;
 use crate::kept::{Activation, Kept, id_of};
@@ -34,8 +32,9 @@ impl<F: Facets> Kept<F> {
     ) -> Result<(), NoMemory>
         requires sound { IsSound F.limits lent.now self.old }
         requires run { IsRun lent.now self.old.requests run.now }
-        ensures moved { (before : Option Thread) (s : State Thread) → Keeps F.rows lent.now self.old s →
-            Makes F.rows lent.now result (ends (rules_in lent.now) run.now.at.number run.now.number (run_of before run.now) outcome s) self.new lines.old lines.new }
+        ensures moved { (before : Option Thread) →
+            MakesFrom F.rows lent.now result self.old self.new lines.old lines.new
+            (run_ends lent.now run.now before outcome) }
         ensures sound { IsSound F.limits lent.now self.new }
         ensures labelled { KeepsLabelled (count lent.now.policy.lattice) lines.old lines.new }
         ensures numbers { HasSameNumbers self.old self.new }
@@ -65,8 +64,9 @@ impl<F: Facets> Kept<F> {
         requires some { 0 < length (list_of self.old.queues run.at.number) }
         requires sum { run.used + given < 2 ^ 32 }
         requires ready { IsReady (module_in lent.now run.function) sandbox }
-        ensures moved { (before : Option Thread) (s : State Thread) → Keeps F.rows lent.now self.old s →
-            Makes F.rows lent.now result (waits (rules_in lent.now) run.at.number run.number (run_of before run) given (thread_of (module_in lent.now run.function) sandbox) s) self.new lines.old lines.new }
+        ensures moved { (before : Option Thread) →
+            MakesFrom F.rows lent.now result self.old self.new lines.old lines.new
+            (run_waits lent.now run before given sandbox) }
         ensures sound { IsSound F.limits lent.now self.new }
         ensures labelled { KeepsLabelled (count lent.now.policy.lattice) lines.old lines.new }
         ensures numbers { HasSameNumbers self.old self.new }
@@ -103,8 +103,9 @@ impl<F: Facets> Kept<F> {
         requires run { IsRun lent.now self.old.requests run }
         requires label { label.number < count lent.now.policy.lattice }
         requires ready { IsReady (module_in lent.now run.function) sandbox }
-        ensures moved { (before : Option Thread) (given : ℕ) (s : State Thread) → Keeps F.rows lent.now self.old s →
-            Makes F.rows lent.now result (closing (rules_in lent.now) run.at.number run.number (run_of before run) given (Raised label.number (thread_of (module_in lent.now run.function) sandbox)) s) self.new lines.old lines.new }
+        ensures moved { (before : Option Thread) (given : ℕ) →
+            MakesFrom F.rows lent.now result self.old self.new lines.old lines.new
+            (run_closes lent.now run before given (Ending.Raised sandbox label)) }
         ensures sound { IsSound F.limits lent.now self.new }
         ensures labelled { KeepsLabelled (count lent.now.policy.lattice) lines.old lines.new }
         ensures numbers { HasSameNumbers self.old self.new }
@@ -123,34 +124,8 @@ impl<F: Facets> Kept<F> {
         self.arrive(lent, label, at, activation, lines)
     }
 
-    /// The units that the activation was given are used: it has used all its fuel and is stopped, or it waits.
-    fn spend(
-        &mut self,
-        lent: &Lent,
-        run: Run,
-        given: u32,
-        sandbox: Sandbox,
-        lines: &mut Lines,
-    ) -> Result<(), NoMemory>
-        requires sound { IsSound F.limits lent.now self.old }
-        requires run { IsRun lent.now self.old.requests run }
-        requires some { 0 < length (list_of self.old.queues run.at.number) }
-        requires sum { run.used + given < 2 ^ 32 }
-        requires ready { IsReady (module_in lent.now run.function) sandbox }
-        ensures moved { (before : Option Thread) (s : State Thread) → Keeps F.rows lent.now self.old s →
-            Makes F.rows lent.now result (closing (rules_in lent.now) run.at.number run.number (run_of before run) given (Spent (thread_of (module_in lent.now run.function) sandbox)) s) self.new lines.old lines.new }
-        ensures sound { IsSound F.limits lent.now self.new }
-        ensures labelled { KeepsLabelled (count lent.now.policy.lattice) lines.old lines.new }
-        ensures numbers { HasSameNumbers self.old self.new }
-    {
-        if run.used + given == lent.limits(run.at).fuel {
-            self.finish(lent, &run, Outcome::Trapped(Cause::Fuel), lines)
-        } else {
-            self.wait(lent, run, given, sandbox, lines)
-        }
-    }
-
-    /// The end of a turn in which so many units were given.
+    /// The end of a turn in which so many units were given. Where they are used, the activation has used all its fuel
+    /// and is stopped, or it waits.
     pub(crate) fn close(
         &mut self,
         lent: &Lent,
@@ -164,8 +139,9 @@ impl<F: Facets> Kept<F> {
         requires some { 0 < length (list_of self.old.queues run.at.number) }
         requires sum { run.used + given < 2 ^ 32 }
         requires end { IsFitEnd (module_in lent.now run.function) (count lent.now.policy.lattice) end }
-        ensures moved { (before : Option Thread) (s : State Thread) → Keeps F.rows lent.now self.old s →
-            Makes F.rows lent.now result (closing (rules_in lent.now) run.at.number run.number (run_of before run) given (end_of (module_in lent.now run.function) end) s) self.new lines.old lines.new }
+        ensures moved { (before : Option Thread) →
+            MakesFrom F.rows lent.now result self.old self.new lines.old lines.new
+            (run_closes lent.now run before given end) }
         ensures sound { IsSound F.limits lent.now self.new }
         ensures labelled { KeepsLabelled (count lent.now.policy.lattice) lines.old lines.new }
         ensures numbers { HasSameNumbers self.old self.new }
@@ -174,7 +150,13 @@ impl<F: Facets> Kept<F> {
             Ending::Ended => self.finish(lent, &run, Outcome::Ended, lines),
             Ending::Trapped(cause) => self.finish(lent, &run, Outcome::Trapped(cause), lines),
             Ending::Raised(sandbox, label) => self.raise(lent, run, sandbox, label, lines),
-            Ending::Spent(sandbox) => self.spend(lent, run, given, sandbox, lines),
+            Ending::Spent(sandbox) => {
+                if run.used + given == lent.limits(run.at).fuel {
+                    self.finish(lent, &run, Outcome::Trapped(Cause::Fuel), lines)
+                } else {
+                    self.wait(lent, run, given, sandbox, lines)
+                }
+            }
         }
     }
 }

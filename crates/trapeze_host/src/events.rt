@@ -2,12 +2,11 @@
 
 ghost use Rattle.label_lattice.specs.Order.{count};
 ghost use Rattle.event_file.specs.Script.{IsFit};
-ghost use Rattle.wasm_semantics.specs.Threads.{Thread};
-ghost use Rattle.host_rules.specs.States.{State, Happens};
+ghost use Rattle.host_rules.specs.States.{Happens};
 ghost use Rattle.host_rules.specs.Play.{step};
 ghost use Rattle.trapeze_host.specs.Adding.{KeepsLabelled};
 ghost use Rattle.trapeze_host.specs.Loans.{known_in, rules_in, guest_in};
-ghost use Rattle.trapeze_host.specs.Keeping.{Keeps, Makes, IsSound, AreFew, RaisesNumbers};
+ghost use Rattle.trapeze_host.specs.Keeping.{MakesFrom, IsSound, AreFew, RaisesNumbers};
 
 use crate::kept::Kept;
 use crate::lent::Lent;
@@ -27,8 +26,8 @@ impl<F: Facets> Kept<F> {
         requires sound { IsSound F.limits lent.now self.old }
         requires few { AreFew self.old }
         requires event { IsFit (known_in lent.now.policy) event.now }
-        ensures moved { (s : State Thread) → Keeps F.rows lent.now self.old s →
-            Makes F.rows lent.now result (step (rules_in lent.now) (guest_in lent.now) s (Happens event.now)) self.new lines.old lines.new }
+        ensures moved { MakesFrom F.rows lent.now result self.old self.new lines.old lines.new
+            (λ s. step (rules_in lent.now) (guest_in lent.now) s (Happens event.now)) }
         ensures sound { IsSound F.limits lent.now self.new }
         ensures labelled { KeepsLabelled (count lent.now.policy.lattice) lines.old lines.new }
         ensures raised { RaisesNumbers self.old self.new }

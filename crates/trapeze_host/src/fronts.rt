@@ -1,18 +1,18 @@
 //! A turn, from its start.
 
-ghost use Rattle.std.specs.Prelude.{◌≡◌, ◌<◌, ◌+◌, ◌^◌, Option, Some, length, option_map, slice_get, slice_index, slice_set, IfOk, OnOk};
+ghost use Rattle.std.specs.Prelude.{◌≡◌, ◌<◌, ◌^◌, Option, Some, length, option_map};
+ghost use Rattle.std.specs.Prelude.{slice_get, slice_index, slice_set, IfOk};
 ghost use Rattle.std.specs.Option.{ForSome};
 ghost use Rattle.label_lattice.specs.Order.{count};
 ghost use Rattle.label_queues.specs.Lists.{list_of, with_list};
 ghost use Rattle.wasm_semantics.specs.Threads.{Thread};
 ghost use Rattle.sandbox.specs.Threads.{thread_of, IsReady};
 ghost use Rattle.host_rules.specs.Rules.{limits_at};
-ghost use Rattle.host_rules.specs.States.{State};
-ghost use Rattle.host_rules.specs.Turns.{run as ran, turn_of, turn as turned};
+ghost use Rattle.host_rules.specs.Turns.{turn as turned};
 ghost use Rattle.trapeze_host.specs.Adding.{KeepsLabelled};
 ghost use Rattle.trapeze_host.specs.Loans.{rules_in, guest_in, module_in};
-ghost use Rattle.trapeze_host.specs.Keeping.{Keeps, Makes, IsSound, IsFit, HasSameNumbers, RaisesNumbers};
-ghost use Rattle.trapeze_host.specs.Turning.{run_of, IsRun, GoesOn};
+ghost use Rattle.trapeze_host.specs.Keeping.{MakesFrom, IsSound, HasSameNumbers, RaisesNumbers};
+ghost use Rattle.trapeze_host.specs.Turning.{run_turns, turn_of_front, IsRun, GoesOn};
 
 use crate::kept::{Activation, Kept};
 use crate::lent::Lent;
@@ -37,7 +37,8 @@ pub(crate) fn replace_front(
     requires label { at.number < length queues.old.limits }
     requires some { 0 < length (list_of queues.old at.number) }
     ensures front { slice_get (list_of queues.old at.number) 0 ≡ Some result }
-    ensures after { queues.new ≡ with_list queues.old at.number (slice_set (list_of queues.old at.number) 0 activation) }
+    ensures after { queues.new ≡
+        with_list queues.old at.number (slice_set (list_of queues.old at.number) 0 activation) }
 {
     match queues.front(at) {
         Some(front) => mem::replace(front, activation),
@@ -56,7 +57,8 @@ fn begin(
     requires at { at.number < count lent.now.policy.lattice }
     requires function { function < length lent.now.policy.functions }
     requires ready { ForSome sandbox (IsReady (module_in lent.now function)) }
-    ensures { IfOk result (GoesOn (module_in lent.now function) (limits_at (rules_in lent.now) at.number).pages
+    ensures { IfOk result
+        (GoesOn (module_in lent.now function) (limits_at (rules_in lent.now) at.number).pages
         (option_map (thread_of (module_in lent.now function)) sandbox)) }
 {
     match sandbox {
@@ -81,9 +83,9 @@ impl<F: Facets> Kept<F> {
         requires run { IsRun lent.now self.old.requests run }
         requires some { 0 < length (list_of self.old.queues run.at.number) }
         requires ready { IsReady (module_in lent.now run.function) sandbox }
-        ensures moved { (before : Option Thread) (s : State Thread) → Keeps F.rows lent.now self.old s →
-            Makes F.rows lent.now result (ran (rules_in lent.now) (guest_in lent.now) run.at.number run.number (run_of before run)
-            (thread_of (module_in lent.now run.function) sandbox) s) self.new lines.old lines.new }
+        ensures moved { (before : Option Thread) →
+            MakesFrom F.rows lent.now result self.old self.new lines.old lines.new
+            (run_turns lent.now run before sandbox) }
         ensures sound { IsSound F.limits lent.now self.new }
         ensures labelled { KeepsLabelled (count lent.now.policy.lattice) lines.old lines.new }
         ensures numbers { HasSameNumbers self.old self.new }
@@ -107,8 +109,8 @@ impl<F: Facets> Kept<F> {
         requires sound { IsSound F.limits lent.now self.old }
         requires at { at.number < count lent.now.policy.lattice }
         requires some { 0 < length (list_of self.old.queues at.number) }
-        ensures moved { (s : State Thread) → Keeps F.rows lent.now self.old s →
-            Makes F.rows lent.now result (turn_of (rules_in lent.now) (guest_in lent.now) at.number number (s.lists at.number) s) self.new lines.old lines.new }
+        ensures moved { MakesFrom F.rows lent.now result self.old self.new lines.old lines.new
+            (turn_of_front lent.now at.number number) }
         ensures sound { IsSound F.limits lent.now self.new }
         ensures labelled { KeepsLabelled (count lent.now.policy.lattice) lines.old lines.new }
         ensures numbers { HasSameNumbers self.old self.new }
@@ -149,8 +151,8 @@ impl<F: Facets> Kept<F> {
         requires sound { IsSound F.limits lent.now self.old }
         requires at { at.number < count lent.now.policy.lattice }
         requires few { slice_index self.old.turns.items at.number < 2 ^ 62 }
-        ensures moved { (s : State Thread) → Keeps F.rows lent.now self.old s →
-            Makes F.rows lent.now result (turned (rules_in lent.now) (guest_in lent.now) at.number s) self.new lines.old lines.new }
+        ensures moved { MakesFrom F.rows lent.now result self.old self.new lines.old lines.new
+            (turned (rules_in lent.now) (guest_in lent.now) at.number) }
         ensures sound { IsSound F.limits lent.now self.new }
         ensures labelled { KeepsLabelled (count lent.now.policy.lattice) lines.old lines.new }
         ensures raised { RaisesNumbers self.old self.new }

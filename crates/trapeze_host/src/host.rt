@@ -1,6 +1,7 @@
 //! The host.
 
-ghost use Rattle.std.specs.Prelude.{◌≡◌, ◌<◌, ◌+◌, ◌^◌, ℕ, Bool, true, false, List, length, All, IfOk, OnOk, is_err};
+ghost use Rattle.std.specs.Prelude.{◌≡◌, ◌<◌, ◌+◌, ◌^◌, ℕ, false, List, length, All};
+ghost use Rattle.std.specs.Prelude.{IfOk, OnOk, OnErr, is_err};
 
 use crate::facets::add_facets;
 use crate::kept::Kept;
@@ -50,7 +51,8 @@ impl<'a, F: Facets> Host<'a, F> {
     ghost use Rattle.host_rules.specs.Stores.{facet_lines};
     ghost use Rattle.host_rules.specs.States.{State, Happens, start};
     ghost use Rattle.host_rules.specs.Play.{step};
-    ghost use Rattle.trapeze_host.specs.Standing.{policy_in, modules_in, is_spent, played_in, known_in, Stands, Moves, Adds};
+    ghost use Rattle.trapeze_host.specs.Standing.{policy_in, modules_in, is_spent, played_in, known_in};
+    ghost use Rattle.trapeze_host.specs.Standing.{Stands, Moves, Adds};
     ghost use Rattle.trapeze_host.specs.Observing.{Hides, Mirrors};
 
     /// A host that has played nothing, over the writes that the store has.
@@ -62,8 +64,10 @@ impl<'a, F: Facets> Host<'a, F> {
     ) -> Result<Host<'a, F>, NoMemory>
         requires programs { length modules.now ≡ length policy.now.functions }
         requires limits { F.limits facets ≡ policy.now.limits }
-        ensures starts { IfOk result (λ host. (w : List Write) → F.rows facets ≡ rows_of w → Stands F.rows host (start w)) }
-        ensures lent { IfOk result (λ host. (policy_in host ≡ policy.now) × (modules_in host ≡ modules.now)) }
+        ensures starts { IfOk result
+            (λ host. (w : List Write) → F.rows facets ≡ rows_of w → Stands F.rows host (start w)) }
+        ensures lent { IfOk result
+            (λ host. (policy_in host ≡ policy.now) × (modules_in host ≡ modules.now)) }
         ensures fresh { IfOk result (λ host. (is_spent host ≡ false) × (played_in host ≡ 0)) }
     {
         let lent = Lent::new(policy, modules);
@@ -85,7 +89,7 @@ impl<'a, F: Facets> Host<'a, F> {
         self.spent
     }
 
-    /// How many calls of `play` were not.
+    /// How many calls of `play` answered Ok.
     pub fn played(&self) -> u64
         ensures { result ≡ played_in self.now }
     {
@@ -101,16 +105,21 @@ impl<'a, F: Facets> Host<'a, F> {
         requires unspent { is_spent self.old ≡ false }
         requires few { played_in self.old < 2 ^ 62 }
         requires event { IsFit (known_in (policy_in self.old)) event.now }
-        ensures moved { (s : State Thread) → Stands F.rows self.old s →
-            Moves F.rows result (step (rules_of (policy_in self.old)) (guest_of (modules_in self.old)) s (Happens event.now)) self.new lines.old lines.new }
-        ensures labelled { All (IsLabelled (count (policy_in self.old).lattice)) lines.old → All (IsLabelled (count (policy_in self.old).lattice)) lines.new }
+        ensures moved { (s : State Thread) → Stands F.rows self.old s → Moves F.rows result
+            (step (rules_of (policy_in self.old)) (guest_of (modules_in self.old)) s (Happens event.now))
+            self.new lines.old lines.new }
+        ensures labelled { All (IsLabelled (count (policy_in self.old).lattice)) lines.old →
+            All (IsLabelled (count (policy_in self.old).lattice)) lines.new }
         ensures spent { is_spent self.new ≡ is_err result }
         ensures counted { OnOk result (played_in self.new ≡ played_in self.old + 1) }
         ensures lent { (policy_in self.new ≡ policy_in self.old) × (modules_in self.new ≡ modules_in self.old) }
         ensures hidden { OnOk result ((o : ℕ) (s : State Thread) → Stands F.rows self.old s →
-            Hides (rules_of (policy_in self.old)) (guest_of (modules_in self.old)) o s event.now lines.old lines.new) }
+            Hides (rules_of (policy_in self.old)) (guest_of (modules_in self.old)) o s event.now
+            lines.old lines.new) }
         ensures seen { OnOk result ((o : ℕ) (s : State Thread) → Stands F.rows self.old s →
-            Mirrors (rules_of (policy_in self.old)) (guest_of (modules_in self.old)) o s event.now lines.old lines.new) }
+            Mirrors (rules_of (policy_in self.old)) (guest_of (modules_in self.old)) o s event.now
+            lines.old lines.new) }
+        ensures uncounted { OnErr result (played_in self.new ≡ played_in self.old) }
     {
         hidden_events_show_releases();
         visible_items_show_the_same();
@@ -135,8 +144,10 @@ impl<'a, F: Facets> Host<'a, F> {
     /// Out of memory: the first of the lines were appended.
     pub fn facet_lines(&self, lines: &mut Lines) -> Result<(), NoMemory>
         requires unspent { is_spent self.now ≡ false }
-        ensures added { (s : State Thread) → Stands F.rows self.now s → Adds result (facet_lines s.store) lines.old lines.new }
-        ensures labelled { All (IsLabelled (count (policy_in self.now).lattice)) lines.old → All (IsLabelled (count (policy_in self.now).lattice)) lines.new }
+        ensures added { (s : State Thread) → Stands F.rows self.now s →
+            Adds result (facet_lines s.store) lines.old lines.new }
+        ensures labelled { All (IsLabelled (count (policy_in self.now).lattice)) lines.old →
+            All (IsLabelled (count (policy_in self.now).lattice)) lines.new }
     {
         add_facets(self.kept.alloc, &self.kept.facets, lines)
     }

@@ -2,12 +2,11 @@
 
 ghost use Rattle.std.specs.Prelude.{◌≡◌, ◌<◌, option_map};
 ghost use Rattle.label_lattice.specs.Order.{count};
-ghost use Rattle.wasm_semantics.specs.Threads.{Thread};
-ghost use Rattle.host_rules.specs.States.{State};
 ghost use Rattle.host_rules.specs.Effects.{arrive as arrived};
 ghost use Rattle.trapeze_host.specs.Adding.{KeepsLabelled};
 ghost use Rattle.trapeze_host.specs.Loans.{rules_in};
-ghost use Rattle.trapeze_host.specs.Keeping.{serving_of, activation_of, Keeps, Makes, IsFit, IsSound, HasSameNumbers, KeepsMembers};
+ghost use Rattle.trapeze_host.specs.Keeping.{serving_of, activation_of, MakesFrom};
+ghost use Rattle.trapeze_host.specs.Keeping.{IsFit, IsSound, HasSameNumbers, KeepsMembers};
 
 use crate::lent::Lent;
 use crate::requests::{Request, Requests};
@@ -73,8 +72,8 @@ impl<F: Facets> Kept<F> {
         requires from { from.number < count lent.now.policy.lattice }
         requires fit { IsFit lent.now self.old.requests activation }
         requires unused { activation.used ≡ 0 }
-        ensures moved { (s : State Thread) → Keeps F.rows lent.now self.old s →
-            Makes F.rows lent.now result (arrived (rules_in lent.now) at.number from.number (activation_of lent.now activation) s) self.new lines.old lines.new }
+        ensures moved { MakesFrom F.rows lent.now result self.old self.new lines.old lines.new
+            (arrived (rules_in lent.now) at.number from.number (activation_of lent.now activation)) }
         ensures sound { IsSound F.limits lent.now self.new }
         ensures labelled { KeepsLabelled (count lent.now.policy.lattice) lines.old lines.new }
         ensures numbers { HasSameNumbers self.old self.new }

@@ -5,13 +5,11 @@ ghost use Rattle.std.specs.Option.{option_copied};
 ghost use Rattle.label_lattice.specs.Order.{count};
 ghost use Rattle.facet_list.specs.Store.{written};
 ghost use Rattle.trapeze_io.specs.Sizes.{IsKey, IsValue, longest_value};
-ghost use Rattle.wasm_semantics.specs.Threads.{Thread};
-ghost use Rattle.host_rules.specs.States.{State};
 ghost use Rattle.host_rules.specs.Effects.{write};
 ghost use Rattle.host_rules.specs.Play.{ask as asked};
 ghost use Rattle.trapeze_host.specs.Adding.{KeepsLabelled};
 ghost use Rattle.trapeze_host.specs.Loans.{rules_in};
-ghost use Rattle.trapeze_host.specs.Keeping.{Keeps, Makes, IsSound, HasSameNumbers, RaisesNumbers};
+ghost use Rattle.trapeze_host.specs.Keeping.{MakesFrom, IsSound, HasSameNumbers, RaisesNumbers};
 ghost use Rattle.trapeze_host.specs.Requests.{taken_of};
 
 use crate::kept::{Activation, Kept, Serving};
@@ -57,8 +55,8 @@ impl<F: Facets> Kept<F> {
         requires at { at.number < count lent.now.policy.lattice }
         requires key { IsKey key.now }
         requires value { IsValue value.now }
-        ensures moved { (s : State Thread) → Keeps F.rows lent.now self.old s →
-            Makes F.rows lent.now result (write (rules_in lent.now) (written at.number key.now value.now) s) self.new lines.old lines.new }
+        ensures moved { MakesFrom F.rows lent.now result self.old self.new lines.old lines.new
+            (write (rules_in lent.now) (written at.number key.now value.now)) }
         ensures sound { IsSound F.limits lent.now self.new }
         ensures labelled { KeepsLabelled (count lent.now.policy.lattice) lines.old lines.new }
         ensures numbers { HasSameNumbers self.old self.new }
@@ -97,8 +95,8 @@ impl<F: Facets> Kept<F> {
         requires function { function < length lent.now.policy.functions }
         requires body { length body.now ≤ longest_value }
         requires few { taken_of self.old.requests at.number < 2 ^ 62 }
-        ensures moved { (s : State Thread) → Keeps F.rows lent.now self.old s →
-            Makes F.rows lent.now result (asked (rules_in lent.now) at.number client function id body.now s) self.new lines.old lines.new }
+        ensures moved { MakesFrom F.rows lent.now result self.old self.new lines.old lines.new
+            (asked (rules_in lent.now) at.number client function id body.now) }
         ensures sound { IsSound F.limits lent.now self.new }
         ensures labelled { KeepsLabelled (count lent.now.policy.lattice) lines.old lines.new }
         ensures raised { RaisesNumbers self.old self.new }

@@ -1,17 +1,16 @@
 //! A stint: the front activation of a label's list runs for some units.
 
-ghost use Rattle.std.specs.Prelude.{◌≡◌, Option, IfOk};
+ghost use Rattle.std.specs.Prelude.{Option, IfOk};
 ghost use Rattle.label_lattice.specs.Order.{count};
 ghost use Rattle.wasm_semantics.specs.Threads.{Thread};
-ghost use Rattle.sandbox.specs.Threads.{thread_of, IsReady, waiting, IsWaiting, asked_of};
-ghost use Rattle.shim_calls.specs.Performing.{asked_in};
+ghost use Rattle.sandbox.specs.Threads.{IsReady, IsWaiting};
 ghost use Rattle.host_rules.specs.States.{State};
-ghost use Rattle.host_rules.specs.Calls.{shim};
-ghost use Rattle.host_rules.specs.Turns.{Stint, after_call, stint as stint_of};
+ghost use Rattle.host_rules.specs.Turns.{Stint};
 ghost use Rattle.trapeze_host.specs.Adding.{KeepsLabelled};
-ghost use Rattle.trapeze_host.specs.Loans.{rules_in, guest_in, module_in};
+ghost use Rattle.trapeze_host.specs.Loans.{module_in};
 ghost use Rattle.trapeze_host.specs.Keeping.{Keeps, IsSound, HasSameNumbers, KeepsMembers};
-ghost use Rattle.trapeze_host.specs.Turning.{run_of, IsRun, Reaches, Finishes, IsFitEnd, IsFitReached};
+ghost use Rattle.trapeze_host.specs.Turning.{run_calls, run_stint, IsRun, Reaches, Finishes};
+ghost use Rattle.trapeze_host.specs.Turning.{IsFitEnd, IsFitReached};
 
 use crate::causes::{cause_of_call, cause_of_unit};
 use crate::kept::Kept;
@@ -38,11 +37,10 @@ impl<F: Facets> Kept<F> {
         requires run { IsRun lent.now self.old.requests run.now }
         requires waits { IsWaiting (module_in lent.now run.now.function) suspended }
         ensures reached { (before : Option Thread) (rest : Thread → State Thread → Stint Thread) (s : State Thread) →
-            Keeps F.rows lent.now self.old s →
-            (let P = rules_in lent.now in let m = module_in lent.now run.now.function in let a = run_of before run.now in let c = run.now.at.number in
-            Reaches F.rows lent.now m rest (after_call P c a s rest (shim P (guest_in lent.now) c a s.store (asked_in (asked_of suspended)) (waiting m suspended)))
-            self.new lines.old lines.new result) }
-        ensures fit { IfOk result (IsFitReached (module_in lent.now run.now.function) (count lent.now.policy.lattice)) }
+            Keeps F.rows lent.now self.old s → Reaches F.rows lent.now (module_in lent.now run.now.function) rest
+            (run_calls lent.now run.now before suspended rest s) self.new lines.old lines.new result }
+        ensures fit { IfOk result
+            (IsFitReached (module_in lent.now run.now.function) (count lent.now.policy.lattice)) }
         ensures sound { IsSound F.limits lent.now self.new }
         ensures labelled { KeepsLabelled (count lent.now.policy.lattice) lines.old lines.new }
         ensures numbers { HasSameNumbers self.old self.new }
@@ -82,11 +80,11 @@ impl<F: Facets> Kept<F> {
         requires sound { IsSound F.limits lent.now self.old }
         requires run { IsRun lent.now self.old.requests run.now }
         requires ready { IsReady (module_in lent.now run.now.function) sandbox }
-        ensures finished { (before : Option Thread) (s : State Thread) → Keeps F.rows lent.now self.old s →
-            (let m = module_in lent.now run.now.function in
-            Finishes F.rows lent.now m (stint_of (rules_in lent.now) (guest_in lent.now) run.now.at.number (run_of before run.now) given (thread_of m sandbox) s)
-            self.new lines.old lines.new result) }
-        ensures fit { IfOk result (IsFitEnd (module_in lent.now run.now.function) (count lent.now.policy.lattice)) }
+        ensures finished { (before : Option Thread) (s : State Thread) →
+            Keeps F.rows lent.now self.old s → Finishes F.rows lent.now (module_in lent.now run.now.function)
+            (run_stint lent.now run.now before given sandbox s) self.new lines.old lines.new result }
+        ensures fit { IfOk result
+            (IsFitEnd (module_in lent.now run.now.function) (count lent.now.policy.lattice)) }
         ensures sound { IsSound F.limits lent.now self.new }
         ensures labelled { KeepsLabelled (count lent.now.policy.lattice) lines.old lines.new }
         ensures numbers { HasSameNumbers self.old self.new }

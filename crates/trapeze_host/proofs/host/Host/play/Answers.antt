@@ -72,5 +72,8 @@ returns-in-Err-clause-labelled g c = labelled_inside _ c.args.self.now c.self.vi
 pub returns-in-Err-clause-spent : goal.returns-in-Err-clause-spent
 returns-in-Err-clause-spent g c = spent_is _
 
+pub returns-in-Err-clause-uncounted : goal.returns-in-Err-clause-uncounted
+returns-in-Err-clause-uncounted g c = played_is _ ∙ sym (played_inside _ c.args.self.now c.self.view_is)
+
 pub returns-in-Err-clause-lent : goal.returns-in-Err-clause-lent
 returns-in-Err-clause-lent g c = (policy_is _ ∙ sym (policy_inside _ c.args.self.now c.self.view_is), modules_are _ ∙ sym (modules_inside _ c.args.self.now c.self.view_is))

@@ -1,16 +1,10 @@
-use Rattle.std.proofs.Common.{◌<◌, length, sym, subst}
+use Rattle.std.proofs.Common.{◌<◌, length, subst}
 use Rattle.label_lattice.specs.Order.{count}
 use Rattle.policy_toml.specs.Parts.{Parts}
-use Rattle.trapeze_lines.specs.declared.outcome.Cause.{Cause}
-use Rattle.sandbox.specs.Threads.{thread_of, waiting, asked_of}
-use Rattle.shim_calls.specs.Performing.{Performs, IsReadyPerformed, IsFitPerformed, asked_in}
-use Rattle.host_rules.specs.Policies.{rules_of}
-use Rattle.host_rules.specs.Calls.{shim}
-use Rattle.host_rules.specs.Turns.{Trapped, after_call}
-use Rattle.trapeze_host.specs.Loans.{rules_in, guest_in, module_in}
-use Rattle.trapeze_host.specs.Turning.{run_of, Owes, ends_so}
+use Rattle.shim_calls.specs.Performing.{IsReadyPerformed, IsFitPerformed}
+use Rattle.trapeze_host.specs.Loans.{module_in}
 use Rattle.trapeze_host.proofs.Keeping.{no_part}
-use Rattle.trapeze_host.proofs.Stints.{written, resumed, resumed_part, raised_so, trapped_so}
+use Rattle.trapeze_host.proofs.Calling.{call_goes_on, call_makes_part, call_raises, call_traps}
 use Rattle.trapeze_host.proofs.kept.Kept.call.Goals as goal
 
 pub returns-in_default-clause-reached : goal.returns-in_default-clause-reached
@@ -31,71 +25,24 @@ returns-in-Raise-clause-fit g c =
 
 pub returns-in-Ok-follow-clause-reached : goal.returns-in-Ok-follow-clause-reached
 returns-in-Ok-follow-clause-reached g c = λ before rest s keeps.
-    let rows = g.F.Facets.rows in
-    let loan = c.args.lent.now in
-    let k = c.args.self.now in
-    let r = c.args.run.now in
-    let P = rules_in loan in
-    let m = module_in loan r.function in
-    let l = r.at.number in
-    let a = run_of before r in
-    let called = shim P (guest_in loan) l a s.store (asked_in (asked_of c.args.suspended)) (waiting m c.args.suspended) in
-    let facets = c.perform.new.facets in
-    let done = subst (λ (p : Parts). Performs (rules_of p) m l a s (shim (rules_of p) (guest_in loan) l a s.store (asked_in (asked_of c.args.suspended)) (waiting m c.args.suspended)) (rows facets) c.in-Ok.done) c.policy.ensures
-    (c.in-Ok.ensures.performed m loan.modules a s c.requires.waits (sym c.as_slice-input.ensures) keeps.store) in
-    let p = subst (Performs P m l a s called (rows facets)) c.in-Resume.is done in
-    resumed rows loan k facets P m l a s keeps called rest c.in-Resume.next c.in-Resume.effect p c.follow.new.self c.args.lines.now c.follow.new.lines
-    (c.in-Ok-follow.ensures.moved before s (written rows loan k facets P m l a s keeps called rest c.in-Resume.next c.in-Resume.effect p))
+    call_goes_on g.F.Facets.rows c.args.lent.now c.args.self.now c.perform.new.facets c.args.run.now c.args.suspended before rest s keeps c.in-Ok.done _ _
+    c.policy.ensures c.as_slice-input.ensures c.requires.waits c.in-Ok.ensures.performed
+    c.in-Resume.next c.in-Resume.effect c.in-Resume.is c.follow.new.self c.args.lines.now c.follow.new.lines c.in-Ok-follow.ensures.moved
 
 pub returns-in-Err-clause-reached : goal.returns-in-Err-clause-reached
 returns-in-Err-clause-reached g c = λ before rest s keeps.
-    let rows = g.F.Facets.rows in
-    let loan = c.args.lent.now in
-    let k = c.args.self.now in
-    let r = c.args.run.now in
-    let P = rules_in loan in
-    let m = module_in loan r.function in
-    let l = r.at.number in
-    let a = run_of before r in
-    let called = shim P (guest_in loan) l a s.store (asked_in (asked_of c.args.suspended)) (waiting m c.args.suspended) in
-    let facets = c.perform.new.facets in
-    let done = subst (λ (p : Parts). Performs (rules_of p) m l a s (shim (rules_of p) (guest_in loan) l a s.store (asked_in (asked_of c.args.suspended)) (waiting m c.args.suspended)) (rows facets) c.in-Ok.done) c.policy.ensures
-    (c.in-Ok.ensures.performed m loan.modules a s c.requires.waits (sym c.as_slice-input.ensures) keeps.store) in
-    let p = subst (Performs P m l a s called (rows facets)) c.in-Resume.is done in
-    resumed_part rows loan k facets P m l a s keeps called rest c.in-Resume.next c.in-Resume.effect p c.args.lines.now c.follow.new.lines
-    (c.in-Err.ensures.moved before s (written rows loan k facets P m l a s keeps called rest c.in-Resume.next c.in-Resume.effect p))
+    call_makes_part g.F.Facets.rows c.args.lent.now c.args.self.now c.perform.new.facets c.args.run.now c.args.suspended before rest s keeps c.in-Ok.done _ _
+    c.policy.ensures c.as_slice-input.ensures c.requires.waits c.in-Ok.ensures.performed
+    c.in-Resume.next c.in-Resume.effect c.in-Resume.is c.args.lines.now c.follow.new.lines c.in-Err.ensures.moved
 
 pub returns-in-Raise-clause-reached : goal.returns-in-Raise-clause-reached
 returns-in-Raise-clause-reached g c = λ before rest s keeps.
-    let rows = g.F.Facets.rows in
-    let loan = c.args.lent.now in
-    let k = c.args.self.now in
-    let r = c.args.run.now in
-    let P = rules_in loan in
-    let m = module_in loan r.function in
-    let l = r.at.number in
-    let a = run_of before r in
-    let called = shim P (guest_in loan) l a s.store (asked_in (asked_of c.args.suspended)) (waiting m c.args.suspended) in
-    let facets = c.perform.new.facets in
-    let done = subst (λ (p : Parts). Performs (rules_of p) m l a s (shim (rules_of p) (guest_in loan) l a s.store (asked_in (asked_of c.args.suspended)) (waiting m c.args.suspended)) (rows facets) c.in-Ok.done) c.policy.ensures
-    (c.in-Ok.ensures.performed m loan.modules a s c.requires.waits (sym c.as_slice-input.ensures) keeps.store) in
-    let p = subst (Performs P m l a s called (rows facets)) c.in-Raise.is done in
-    raised_so rows loan k facets P m l a s keeps called rest c.in-Raise.label.number (thread_of m c.in-Raise.next) c.args.lines.now p.0 p.1
+    call_raises g.F.Facets.rows c.args.lent.now c.args.self.now c.perform.new.facets c.args.run.now c.args.suspended before rest s keeps c.in-Ok.done _ _
+    c.policy.ensures c.as_slice-input.ensures c.requires.waits c.in-Ok.ensures.performed
+    c.in-Raise.next c.in-Raise.label c.in-Raise.is c.args.lines.now
 
 pub returns-in-Trapped-clause-reached : goal.returns-in-Trapped-clause-reached
 returns-in-Trapped-clause-reached g c = λ before rest s keeps.
-    let rows = g.F.Facets.rows in
-    let loan = c.args.lent.now in
-    let k = c.args.self.now in
-    let r = c.args.run.now in
-    let P = rules_in loan in
-    let m = module_in loan r.function in
-    let l = r.at.number in
-    let a = run_of before r in
-    let called = shim P (guest_in loan) l a s.store (asked_in (asked_of c.args.suspended)) (waiting m c.args.suspended) in
-    let facets = c.perform.new.facets in
-    let done = subst (λ (p : Parts). Performs (rules_of p) m l a s (shim (rules_of p) (guest_in loan) l a s.store (asked_in (asked_of c.args.suspended)) (waiting m c.args.suspended)) (rows facets) c.in-Ok.done) c.policy.ensures
-    (c.in-Ok.ensures.performed m loan.modules a s c.requires.waits (sym c.as_slice-input.ensures) keeps.store) in
-    let p = subst (Performs P m l a s called (rows facets)) c.in-Trapped.is done in
-    subst (λ (cause : Cause). Owes rows loan (after_call P l a s rest called) (record k { facets = facets }) c.args.lines.now c.args.lines.now (ends_so (Trapped cause))) (sym c.cause_of_call.ensures)
-    (trapped_so rows loan k facets P m l a s keeps called rest _ c.args.lines.now p.0 p.1)
+    call_traps g.F.Facets.rows c.args.lent.now c.args.self.now c.perform.new.facets c.args.run.now c.args.suspended before rest s keeps c.in-Ok.done _ _
+    c.policy.ensures c.as_slice-input.ensures c.requires.waits c.in-Ok.ensures.performed
+    c.in-Trapped.trap c.in-Trapped.is c.cause_of_call.result c.cause_of_call.ensures c.args.lines.now
