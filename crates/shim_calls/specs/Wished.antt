@@ -1,5 +1,6 @@
 -- What a guest wishes, as the code has it, and what is carried out.
-use Rattle.std.specs.Prelude.{◌≡◌, ℕ, ◌<◌, Bool, true, false, List, Option, Some, None, Result, Ok, Err, ok_or, if◌then◌else◌}
+use Rattle.std.specs.Prelude.{◌≡◌, ℕ, ◌<◌, Bool, true, false, List, Option, Some, None, Result, Ok, Err}
+use Rattle.std.specs.Prelude.{ok_or, if◌then◌else◌}
 use Rattle.trapeze_io.specs.Answers.{◌>>=◌}
 use Rattle.gate_rules.specs.Gates.{filtered}
 use Rattle.facet_list.specs.Store.{Write}
@@ -14,7 +15,7 @@ use Rattle.sandbox.specs.Threads.{waiting, IsWaiting}
 use Rattle.host_rules.specs.Guests.{Guest}
 use Rattle.host_rules.specs.Rules.{Rules, label_of, label_named, channel_named, gate_named}
 use Rattle.host_rules.specs.States.{Activation, State, still, then_lines}
-use Rattle.host_rules.specs.Calls.{Called}
+use Rattle.host_rules.specs.Calls.{Called, copied, granted}
 use Rattle.host_rules.specs.Modules.{guest_of}
 use Rattle.host_rules.specs.Wishes as wishes
 use Rattle.shim_calls.specs.declared.effect.Effect.{Effect}
@@ -97,3 +98,15 @@ abbrev pub Carries : Rules → ℕ → Suspended → List ℕ → Rows → Call 
 Carries P c suspended input before call after done =
     (m : Module) (modules : List Module) (a : Activation Thread) (s : State Thread) → IsWaiting m suspended → a.input ≡ input
     → before ≡ rows_of s.store → Performs P m c a s (call (guest_of modules) a s.store (waiting m suspended)) after done
+
+-- what is granted to this wish was performed
+abbrev pub Grants : Rules → ℕ → Suspended → List ℕ → wishes.Wish → Rows → Rows → Performed → Type 0
+Grants P c suspended input x before after done =
+    Carries P c suspended input before (λ M a w t. granted P M c a w t x) after done
+
+-- the first cap bytes were copied to the guest, with the lines that this effect makes, whatever the activation
+abbrev pub Copies : Suspended → ℕ → ℕ → List ℕ → Option Effect → Performed → Type 0
+Copies suspended at cap bytes effect done =
+    (P : Rules) (m : Module) (modules : List Module) (c : ℕ) (a : Activation Thread) (s : State Thread) (lines : List Line)
+    (rows : Rows) → IsWaiting m suspended → Tells P c a s lines effect → rows ≡ rows_of s.store
+    → Performs P m c a s (copied (guest_of modules) (waiting m suspended) at cap bytes lines) rows done

@@ -1,18 +1,11 @@
 //! What is copied to a guest.
 
-ghost use Rattle.std.specs.Prelude.{◌≡◌, ℕ, ◌≤◌, List, length, take, true, IfOk};
-ghost use Rattle.facet_list.specs.Rows.{Rows, rows_of};
-ghost use Rattle.trapeze_lines.specs.declared.line.Line.{Line};
+ghost use Rattle.std.specs.Prelude.{◌≡◌, ℕ, ◌≤◌, length, take, true, IfOk};
 ghost use Rattle.wasm_ast.specs.declared.modules.Module.{Module};
-ghost use Rattle.wasm_semantics.specs.Threads.{Thread};
 ghost use Rattle.wasm_exec.specs.Asking.{has_answer};
-ghost use Rattle.sandbox.specs.Threads.{waiting, IsWaiting, asked_of};
-ghost use Rattle.host_rules.specs.Rules.{Rules};
-ghost use Rattle.host_rules.specs.States.{Activation, State};
-ghost use Rattle.host_rules.specs.Calls.{copied};
-ghost use Rattle.host_rules.specs.Modules.{guest_of};
-ghost use Rattle.shim_calls.specs.Performing.{Performs, IsFitEffect, IsFitPerformed, IsReadyPerformed};
-ghost use Rattle.shim_calls.specs.Wished.{Tells};
+ghost use Rattle.sandbox.specs.Threads.{IsWaiting, asked_of};
+ghost use Rattle.shim_calls.specs.Performing.{IsFitEffect, IsFitPerformed, IsReadyPerformed};
+ghost use Rattle.shim_calls.specs.Wished.{Copies};
 
 use crate::effect::{Effect, Performed, ShimTrap};
 use sandbox::{StoreError, Suspended};
@@ -28,11 +21,11 @@ pub(crate) fn copied(
 ) -> Result<Performed, NoMemory>
     requires few { length bytes.now ≤ 65536 }
     requires wants { has_answer (asked_of suspended).name ≡ true }
-    ensures performed { IfOk result (λ done. (P : Rules) (m : Module) (modules : List Module) (c : ℕ) (a : Activation Thread) (s : State Thread) (lines : List Line) (rows : Rows) →
-        IsWaiting m suspended → Tells P c a s lines effect → rows ≡ rows_of s.store →
-        Performs P m c a s (copied (guest_of modules) (waiting m suspended) at cap bytes.now lines) rows done) }
-    ensures ready { IfOk result (λ done. (m : Module) → IsWaiting m suspended → IsReadyPerformed m done) }
-    ensures fit { IfOk result (λ done. (labels functions : ℕ) → IsFitEffect labels functions effect → IsFitPerformed labels functions done) }
+    ensures performed { IfOk result (Copies suspended at cap bytes.now effect) }
+    ensures ready { IfOk result
+        (λ done. (m : Module) → IsWaiting m suspended → IsReadyPerformed m done) }
+    ensures fit { IfOk result (λ done. (labels functions : ℕ) →
+        IsFitEffect labels functions effect → IsFitPerformed labels functions done) }
 {
     suspended.memory_is();
     match suspended.put(at, front(bytes, cap)) {

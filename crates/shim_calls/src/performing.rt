@@ -8,12 +8,12 @@ ghost use Rattle.wasm_semantics.specs.Threads.{Thread};
 ghost use Rattle.wasm_exec.specs.Asking.{has_answer};
 ghost use Rattle.sandbox.specs.Threads.{waiting, IsWaiting, asked_of};
 ghost use Rattle.host_rules.specs.States.{Activation, State};
-ghost use Rattle.host_rules.specs.Wishes.{Wish as Wished};
-ghost use Rattle.host_rules.specs.Calls.{raised, granted, shim};
+ghost use Rattle.host_rules.specs.Wishes.{Wish as Wished, Raises};
+ghost use Rattle.host_rules.specs.Calls.{shim};
 ghost use Rattle.host_rules.specs.Policies.{rules_of};
 ghost use Rattle.host_rules.specs.Modules.{guest_of};
 ghost use Rattle.shim_calls.specs.Performing.{asked_in, Performs, IsFitPerformed, IsReadyPerformed};
-ghost use Rattle.shim_calls.specs.Wished.{shown, wants_answer, IsFitWish, Carries};
+ghost use Rattle.shim_calls.specs.Wished.{shown, wants_answer, IsFitWish, Grants};
 
 use crate::copying::copied;
 use crate::effect::{Effect, Performed};
@@ -32,8 +32,8 @@ fn raise(suspended: Suspended, at: Label, policy: &Policy, label: Label) -> Perf
     requires at { at.number < count policy.now.lattice }
     requires label { label.number < count policy.now.lattice }
     requires wants { has_answer (asked_of suspended).name ≡ false }
-    ensures performed { let P = rules_of policy.now in (input : List ℕ) (rows : Rows) → Carries P at.number suspended input rows
-        (λ M a w t. raised P M at.number t label.number) rows result }
+    ensures performed { (input : List ℕ) (rows : Rows) →
+        Grants (rules_of policy.now) at.number suspended input (Raises label.number) rows rows result }
     ensures ready { (m : Module) → IsWaiting m suspended → IsReadyPerformed m result }
     ensures fit { IsFitPerformed (count policy.now.lattice) (length policy.now.functions) result }
 {
@@ -61,10 +61,13 @@ fn grant<F: Facets>(
     requires limits { F.limits facets.old ≡ policy.now.limits }
     requires wants { wants_answer wish ≡ has_answer (asked_of suspended).name }
     requires fit { IsFitWish (count policy.now.lattice) (length policy.now.functions) wish }
-    ensures performed { IfOk result (λ done. let P = rules_of policy.now in (x : Wished) → wish ≡ shown P at.number x →
-        Carries P at.number suspended input.now (F.rows facets.old) (λ M a w t. granted P M at.number a w t x) (F.rows facets.new) done) }
-    ensures ready { IfOk result (λ done. (m : Module) → IsWaiting m suspended → IsReadyPerformed m done) }
-    ensures fit { IfOk result (IsFitPerformed (count policy.now.lattice) (length policy.now.functions)) }
+    ensures performed { IfOk result
+        (λ done. let P = rules_of policy.now in (x : Wished) → wish ≡ shown P at.number x →
+        Grants P at.number suspended input.now x (F.rows facets.old) (F.rows facets.new) done) }
+    ensures ready { IfOk result
+        (λ done. (m : Module) → IsWaiting m suspended → IsReadyPerformed m done) }
+    ensures fit { IfOk result
+        (IsFitPerformed (count policy.now.lattice) (length policy.now.functions)) }
     ensures refused { OnErr result (F.rows facets.new ≡ F.rows facets.old) }
     ensures limits { F.limits facets.new ≡ F.limits facets.old }
 {
@@ -111,12 +114,17 @@ pub fn perform<F: Facets>(
     requires at { at.number < count policy.now.lattice }
     requires input { length input.now ≤ 65536 }
     requires limits { F.limits facets.old ≡ policy.now.limits }
-    ensures performed { IfOk result (λ done. (m : Module) (modules : List Module) (a : Activation Thread) (s : State Thread) →
+    ensures performed { IfOk result
+        (λ done. (m : Module) (modules : List Module) (a : Activation Thread) (s : State Thread) →
         IsWaiting m suspended → a.input ≡ input.now → F.rows facets.old ≡ rows_of s.store →
-        (let P = rules_of policy.now in
-        Performs P m at.number a s (shim P (guest_of modules) at.number a s.store (asked_in (asked_of suspended)) (waiting m suspended)) (F.rows facets.new) done)) }
-    ensures ready { IfOk result (λ done. (m : Module) → IsWaiting m suspended → IsReadyPerformed m done) }
-    ensures fit { IfOk result (IsFitPerformed (count policy.now.lattice) (length policy.now.functions)) }
+        (let P = rules_of policy.now in let asked = asked_in (asked_of suspended) in
+        Performs P m at.number a s
+        (shim P (guest_of modules) at.number a s.store asked (waiting m suspended))
+        (F.rows facets.new) done)) }
+    ensures ready { IfOk result
+        (λ done. (m : Module) → IsWaiting m suspended → IsReadyPerformed m done) }
+    ensures fit { IfOk result
+        (IsFitPerformed (count policy.now.lattice) (length policy.now.functions)) }
     ensures refused { OnErr result (F.rows facets.new ≡ F.rows facets.old) }
     ensures limits { F.limits facets.new ≡ F.limits facets.old }
 {

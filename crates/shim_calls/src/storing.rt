@@ -1,20 +1,16 @@
 //! Reads and writes of a store.
 
-ghost use Rattle.std.specs.Prelude.{◌≡◌, ◌<◌, List, [], ◌∷◌, ℕ, Some, length, true, if◌then◌else◌, IfOk, OnErr};
+ghost use Rattle.std.specs.Prelude.{◌≡◌, ◌<◌, List, ℕ, length, true, IfOk, OnErr};
 ghost use Rattle.std.specs.Option.{option_copied};
 ghost use Rattle.label_lattice.specs.Order.{count};
-ghost use Rattle.facet_list.specs.Store.{written};
 ghost use Rattle.facet_list.specs.Rows.{IsKey, IsValue};
-ghost use Rattle.trapeze_lines.specs.declared.line.Kind.TheVariants as kind;
-ghost use Rattle.trapeze_lines.specs.Lines.{line_at};
 ghost use Rattle.wasm_ast.specs.declared.modules.Module.{Module};
 ghost use Rattle.wasm_exec.specs.Asking.{has_answer};
 ghost use Rattle.sandbox.specs.Threads.{IsWaiting, asked_of};
-ghost use Rattle.host_rules.specs.Stores.{read, fits};
-ghost use Rattle.host_rules.specs.Calls.{read_out, resumes, AWrite};
+ghost use Rattle.host_rules.specs.Wishes.{Reads, Writes};
 ghost use Rattle.host_rules.specs.Policies.{rules_of};
 ghost use Rattle.shim_calls.specs.Performing.{IsFitPerformed, IsReadyPerformed};
-ghost use Rattle.shim_calls.specs.Wished.{Carries};
+ghost use Rattle.shim_calls.specs.Wished.{Grants};
 
 use crate::copying::copied;
 use crate::effect::{Effect, Performed};
@@ -39,10 +35,13 @@ pub(crate) fn read<F: Facets>(
     requires at { at.number < count policy.now.lattice }
     requires limits { F.limits facets.now ≡ policy.now.limits }
     requires wants { has_answer (asked_of suspended).name ≡ true }
-    ensures performed { IfOk result (λ done. let P = rules_of policy.now in (input : List ℕ) → Carries P at.number suspended input (F.rows facets.now)
-        (λ M a w t. read_out M t place cap (read P at.number key w) (line_at at.number (kind.Read key (read P at.number key w)) ∷ [])) (F.rows facets.now) done) }
-    ensures ready { IfOk result (λ done. (m : Module) → IsWaiting m suspended → IsReadyPerformed m done) }
-    ensures fit { IfOk result (IsFitPerformed (count policy.now.lattice) (length policy.now.functions)) }
+    ensures performed { IfOk result
+        (λ done. (input : List ℕ) → Grants (rules_of policy.now) at.number suspended input
+        (Reads key place cap) (F.rows facets.now) (F.rows facets.now) done) }
+    ensures ready { IfOk result
+        (λ done. (m : Module) → IsWaiting m suspended → IsReadyPerformed m done) }
+    ensures fit { IfOk result
+        (IsFitPerformed (count policy.now.lattice) (length policy.now.functions)) }
 {
     rows_tell_reads();
     match facets.read(policy.lattice(), at, key.as_slice()) {
@@ -77,10 +76,13 @@ pub(crate) fn write<F: Facets>(
     requires key { IsKey key }
     requires value { IsValue value }
     requires wants { has_answer (asked_of suspended).name ≡ true }
-    ensures performed { IfOk result (λ done. let P = rules_of policy.now in (input : List ℕ) → Carries P at.number suspended input (F.rows facets.old)
-        (λ M a w t. resumes M t (Some (if fits P w (written at.number key value) then 0 else 1)) [] (AWrite key value)) (F.rows facets.new) done) }
-    ensures ready { IfOk result (λ done. (m : Module) → IsWaiting m suspended → IsReadyPerformed m done) }
-    ensures fit { IfOk result (IsFitPerformed (count policy.now.lattice) (length policy.now.functions)) }
+    ensures performed { IfOk result
+        (λ done. (input : List ℕ) → Grants (rules_of policy.now) at.number suspended input
+        (Writes key value) (F.rows facets.old) (F.rows facets.new) done) }
+    ensures ready { IfOk result
+        (λ done. (m : Module) → IsWaiting m suspended → IsReadyPerformed m done) }
+    ensures fit { IfOk result
+        (IsFitPerformed (count policy.now.lattice) (length policy.now.functions)) }
     ensures refused { OnErr result (F.rows facets.new ≡ F.rows facets.old) }
     ensures limits { F.limits facets.new ≡ F.limits facets.old }
 {

@@ -8,7 +8,8 @@ ghost use Rattle.sandbox.specs.Threads.{memory_of, asked_of};
 ghost use Rattle.host_rules.specs.Policies.{rules_of};
 ghost use Rattle.host_rules.specs.Wishes.{wish};
 ghost use Rattle.shim_calls.specs.Performing.{asked_in};
-ghost use Rattle.shim_calls.specs.Wished.{fault_of, wished, sends, raises, releases, IsFitWish, wants_answer};
+ghost use Rattle.shim_calls.specs.Wished.{fault_of, wished, sends, raises, releases};
+ghost use Rattle.shim_calls.specs.Wished.{IsFitWish, wants_answer};
 
 use crate::effect::ShimTrap;
 use crate::ranges::{NameBytes, source};
@@ -26,7 +27,8 @@ use wasm_ast::HostName;
 fn sent(policy: &Policy, at: Label, name: &[u8], bytes: Bytes) -> Result<Wish, Refused>
     requires at { at.number < count policy.now.lattice }
     requires few { length bytes ≤ 65536 }
-    ensures wish { let P = rules_of policy.now in Answers fault_of (wished P at.number (sends P name.now bytes)) result }
+    ensures wish { let P = rules_of policy.now in
+        Answers fault_of (wished P at.number (sends P name.now bytes)) result }
     ensures wants { IfOk result (λ wish. wants_answer wish ≡ false) }
     ensures fit { IfOk result (IsFitWish (count policy.now.lattice) (length policy.now.functions)) }
 {
@@ -44,7 +46,8 @@ fn sent(policy: &Policy, at: Label, name: &[u8], bytes: Bytes) -> Result<Wish, R
 
 /// The label with this name.
 fn raised(policy: &Policy, at: Label, name: &[u8]) -> Result<Wish, Refused>
-    ensures wish { let P = rules_of policy.now in Answers fault_of (wished P at.number (raises P name.now)) result }
+    ensures wish { let P = rules_of policy.now in
+        Answers fault_of (wished P at.number (raises P name.now)) result }
     ensures wants { IfOk result (λ wish. wants_answer wish ≡ false) }
     ensures fit { IfOk result (IsFitWish (count policy.now.lattice) (length policy.now.functions)) }
 {
@@ -58,7 +61,8 @@ fn raised(policy: &Policy, at: Label, name: &[u8]) -> Result<Wish, Refused>
 fn released(policy: &Policy, at: Label, name: &[u8], bytes: Bytes) -> Result<Wish, Refused>
     requires at { at.number < count policy.now.lattice }
     requires few { length bytes ≤ 65536 }
-    ensures wish { let P = rules_of policy.now in Answers fault_of (wished P at.number (releases P name.now bytes)) result }
+    ensures wish { let P = rules_of policy.now in
+        Answers fault_of (wished P at.number (releases P name.now bytes)) result }
     ensures wants { IfOk result (λ wish. wants_answer wish ≡ false) }
     ensures fit { IfOk result (IsFitWish (count policy.now.lattice) (length policy.now.functions)) }
 {
@@ -81,8 +85,8 @@ pub(crate) fn wish(
     policy: &Policy,
 ) -> Result<Wish, Refused>
     requires at { at.number < count policy.now.lattice }
-    ensures wish { let P = rules_of policy.now in
-        Answers fault_of (wished P at.number (wish P (memory_of suspended.now) (asked_in (asked_of suspended.now)))) result }
+    ensures wish { let P = rules_of policy.now in let asked = asked_in (asked_of suspended.now) in
+        Answers fault_of (wished P at.number (wish P (memory_of suspended.now) asked)) result }
     ensures wants { IfOk result (λ wish. wants_answer wish ≡ has_answer (asked_of suspended.now).name) }
     ensures fit { IfOk result (IsFitWish (count policy.now.lattice) (length policy.now.functions)) }
 {
