@@ -31,7 +31,7 @@ use Rattle.trapeze_host.proofs.Stints.{written, resumed, resumed_part, raised_so
 module _ {F : Type 0} (rows : F → Rows) (loan : Loan) (k : Kept F) (facets : F) (r : Run) (suspended : Suspended) (before : Option Thread) (rest : Thread → State Thread → Stint Thread)
     (s : State Thread) (keeps : Keeps rows loan k s) (done : Performed) (parts : Parts) (input : List ℕ) (policy_is : parts ≡ loan.policy) (input_is : input ≡ r.input) (waits : IsWaiting (module_in loan r.function) suspended)
     (performs : (m : Module) (modules : List Module) (a : Activation Thread) (s : State Thread) → IsWaiting m suspended → a.input ≡ input → rows k.facets ≡ rows_of s.store
-        → Performs (rules_of parts) m r.at.number a s (shim (rules_of parts) (guest_of modules) r.at.number a s.store (asked_in (asked_of suspended)) (waiting m suspended)) (rows facets) done) where
+    → Performs (rules_of parts) m r.at.number a s (shim (rules_of parts) (guest_of modules) r.at.number a s.store (asked_in (asked_of suspended)) (waiting m suspended)) (rows facets) done) where
   abbrev called : Called Thread
   called = shim (rules_in loan) (guest_in loan) r.at.number (run_of before r) s.store (asked_in (asked_of suspended)) (waiting (module_in loan r.function) suspended)
 

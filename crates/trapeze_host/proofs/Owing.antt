@@ -1,6 +1,6 @@
 -- A stint of which a part is done, by how the engine's run ended.
 use Rattle.std.proofs.Common.{◌≡◌, ℕ, ◌-◌, List, Option, refl, sym, subst}
-use Rattle.std.specs.Prelude.{Result, Ok, Err}
+use Rattle.std.specs.Prelude.{Result, Ok}
 use Rattle.trapeze_io.specs.declared.failures.NoMemory.{NoMemory}
 use Rattle.label_limits.specs.declared.limits.Limits.{Limits}
 use Rattle.facet_list.specs.Rows.{Rows}
@@ -88,6 +88,7 @@ module _ {F : Type 0} (rows : F → Rows) (law : GoesByRuns) (loan : Loan) (r : 
         (came j after x (reached.Ends end) e h))
 
     -- memory was refused in the call
-    pub asks_short : (j : Kept F) (after : List Line) (e : NoMemory) → Came j after (Err e) → AddsPart (run_stint loan r before given first s).moved.lines lines after
-    asks_short j after e h = subst (λ (n : ℕ). AddsPart (run_stint loan r before n first s).moved.lines lines after) whole_is
+    pub asks_short : (after : List Line) → ((before : Option Thread) (rest : Thread → State Thread → Stint Thread) (s : State Thread) → Keeps rows loan k s → AddsPart (run_calls loan r before suspended rest s).moved.lines between after)
+        → AddsPart (run_stint loan r before given first s).moved.lines lines after
+    asks_short after h = subst (λ (n : ℕ). AddsPart (run_stint loan r before n first s).moved.lines lines after) whole_is
         (owes_part rows loan (run_stint loan r before whole first s) calls k lines between after (run_stint loan r before left sandbox) o asked (h before rest o.done.state o.keeps))

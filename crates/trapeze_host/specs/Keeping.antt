@@ -51,7 +51,8 @@ pub record Keeps {F : Type 0} (rows : F → Rows) (loan : Loan) (k : Kept F) (s 
   pub state : state_of loan s.store k ≡ s
 
 -- the move was made: what is kept stands for the state after it, and its lines were appended
-pub record Made {F : Type 0} (rows : F → Rows) (loan : Loan) (m : rules.Moved Thread) (k : Kept F) (before after : List Line) : Type 0 where
+pub record Made {F : Type 0} (rows : F → Rows) (loan : Loan) (m : rules.Moved Thread) (k : Kept F)
+    (before after : List Line) : Type 0 where
   pub keeps : Keeps rows loan k m.state
   pub lines : after ≡ before ++ m.lines
 
@@ -62,7 +63,8 @@ Makes rows loan result m k before after =
     MatchResult result (λ _. Made rows loan m k before after) (λ _. AddsPart m.lines before after)
 
 -- the store has the write of the move already, and all else that is kept stands for this state
-pub record IsWritten {F : Type 0} (rows : F → Rows) (loan : Loan) (k : Kept F) (s : rules.State Thread) (m : rules.Moved Thread) : Type 0 where
+pub record IsWritten {F : Type 0} (rows : F → Rows) (loan : Loan) (k : Kept F) (s : rules.State Thread)
+    (m : rules.Moved Thread) : Type 0 where
   pub store : rows k.facets ≡ rows_of m.state.store
   pub state : state_of loan s.store k ≡ s
 

@@ -122,8 +122,8 @@ IsFitReached m labels (reached.Goes sandbox) = IsReady m sandbox
 IsFitReached m labels (reached.Ends end) = IsFitEnd m labels end
 
 -- a part of the stint is done, its lines appended, and the rest is owed from where what is kept stands now
-pub record Owes {F : Type 0} (rows : F → Rows) (loan : Loan) (whole : turns.Stint Thread) (k : Kept F) (before after : List Line)
-    (rest : rules.State Thread → turns.Stint Thread) : Type 0 where
+pub record Owes {F : Type 0} (rows : F → Rows) (loan : Loan) (whole : turns.Stint Thread) (k : Kept F)
+    (before after : List Line) (rest : rules.State Thread → turns.Stint Thread) : Type 0 where
   pub done : rules.Moved Thread
   pub keeps : Keeps rows loan k done.state
   pub lines : after ≡ before ++ done.lines
@@ -135,21 +135,27 @@ ends_so end s = turns.stops s end
 
 -- after a host call: the rest is owed with the thread that goes on, or nothing but the end; or, out of memory, the first lines
 -- were appended
-abbrev pub Reaches : {F : Type 0} → (F → Rows) → Loan → Module → (Thread → rules.State Thread → turns.Stint Thread) → turns.Stint Thread →
-    Kept F → List Line → List Line → Result Reached NoMemory → Type 0
-Reaches rows loan m rest whole k before after (Ok (reached.Goes sandbox)) = Owes rows loan whole k before after (rest (thread_of m sandbox))
-Reaches rows loan m rest whole k before after (Ok (reached.Ends end)) = Owes rows loan whole k before after (ends_so (end_of m end))
+abbrev pub Reaches :
+    {F : Type 0} → (F → Rows) → Loan → Module → (Thread → rules.State Thread → turns.Stint Thread)
+    → turns.Stint Thread → Kept F → List Line → List Line → Result Reached NoMemory → Type 0
+Reaches rows loan m rest whole k before after (Ok (reached.Goes sandbox)) =
+    Owes rows loan whole k before after (rest (thread_of m sandbox))
+Reaches rows loan m rest whole k before after (Ok (reached.Ends end)) =
+    Owes rows loan whole k before after (ends_so (end_of m end))
 Reaches rows loan m rest whole k before after (Err e) = AddsPart whole.moved.lines before after
 
 -- after a whole stint
-abbrev pub Finishes : {F : Type 0} → (F → Rows) → Loan → Module → turns.Stint Thread →
-    Kept F → List Line → List Line → Result Ending NoMemory → Type 0
-Finishes rows loan m whole k before after (Ok end) = Owes rows loan whole k before after (ends_so (end_of m end))
+abbrev pub Finishes :
+    {F : Type 0} → (F → Rows) → Loan → Module → turns.Stint Thread → Kept F → List Line → List Line
+    → Result Ending NoMemory → Type 0
+Finishes rows loan m whole k before after (Ok end) =
+    Owes rows loan whole k before after (ends_so (end_of m end))
 Finishes rows loan m whole k before after (Err e) = AddsPart whole.moved.lines before after
 
 -- the thread that an activation goes on with: its own, or the starting one, where the label allows its memory
 abbrev pub GoesOn : Module → ℕ → Option Thread → Begun → Type 0
-GoesOn m pages None (begun.Ready sandbox) = (first_pages m ≤ pages) × (thread_of m sandbox ≡ begin m) × IsReady m sandbox
+GoesOn m pages None (begun.Ready sandbox) =
+    (first_pages m ≤ pages) × (thread_of m sandbox ≡ begin m) × IsReady m sandbox
 GoesOn m pages None begun.Pages = pages < first_pages m
 GoesOn m pages (Some t) (begun.Ready sandbox) = (thread_of m sandbox ≡ t) × IsReady m sandbox
 GoesOn m pages (Some t) begun.Pages = ⊥

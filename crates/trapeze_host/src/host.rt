@@ -100,7 +100,7 @@ impl<'a, F: Facets> Host<'a, F> {
     ///
     /// # Errors
     ///
-    /// Out of memory: the first of the lines were appended, and the host is spent.
+    /// Out of memory: the first of the lines were appended, the host is spent, and no event more counts as played.
     pub fn play(&mut self, event: &Event, lines: &mut Lines) -> Result<(), NoMemory>
         requires unspent { is_spent self.old ≡ false }
         requires few { played_in self.old < 2 ^ 62 }

@@ -40,7 +40,7 @@ units-preserved g c = record {
   ready = subst (IsFitReached (module_in c.args.lent.now c.args.run.now.function) (count c.args.lent.now.policy.lattice)) c.in-Ok-Goes.field-0-is c.in-Ok-Goes.ensures.fit;
   owes = λ before s keeps.
       asks_goes g.F.Facets.rows c.stints_go_by_runs.ensures c.args.lent.now c.args.run.now before c.args.sandbox s c.units.self c.args.lines.now c.units.lines _ _ c.from-left.ensures c.units.left c.go-went.result.used
-    c.limits-pages.result c.program-program.result.now c.units.sandbox c.go-went.result.going c.program-program.ensures c.limits-pages.ensures c.go-went.ensures.ends (c.units.invariant.owes before s keeps)
+      c.limits-pages.result c.program-program.result.now c.units.sandbox c.go-went.result.going c.program-program.ensures c.limits-pages.ensures c.go-went.ensures.ends (c.units.invariant.owes before s keeps)
       c.in-Asks.suspended c.in-Asks.is c.call.new.self c.call.new.lines _ c.in-Ok-Goes.next c.in-Ok-Goes.field-0-is c.in-Ok-Goes.ensures.reached;
   labelled = λ h. c.in-Ok-Goes.ensures.labelled (c.units.invariant.labelled h);
   numbers = numbers_then c.args.self.now c.units.self c.call.new.self c.units.invariant.numbers c.in-Ok-Goes.ensures.numbers;
@@ -57,7 +57,7 @@ pub returns-in-Err-clause-finished : goal.returns-in-Err-clause-finished
 returns-in-Err-clause-finished g c = λ before s keeps.
     asks_short g.F.Facets.rows c.stints_go_by_runs.ensures c.args.lent.now c.args.run.now before c.args.sandbox s c.units.self c.args.lines.now c.units.lines _ _ c.from-left.ensures c.units.left c.go-went.result.used
     c.limits-pages.result c.program-program.result.now c.units.sandbox c.go-went.result.going c.program-program.ensures c.limits-pages.ensures c.go-went.ensures.ends (c.units.invariant.owes before s keeps)
-    c.in-Asks.suspended c.in-Asks.is c.call.new.self c.call.new.lines _ c.in-Err.ensures.reached
+    c.in-Asks.suspended c.in-Asks.is c.call.new.lines c.in-Err.ensures.reached
 
 pub returns-in-Spent-clause-finished : goal.returns-in-Spent-clause-finished
 returns-in-Spent-clause-finished g c = λ before s keeps.
