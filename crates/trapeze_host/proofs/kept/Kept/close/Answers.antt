@@ -1,4 +1,4 @@
-use Rattle.std.proofs.Common.{◌≡◌, ◌+◌, sym, ◌∙◌, ap, subst}
+use Rattle.std.proofs.Common.{◌≡◌, ◌≢◌, ◌+◌, sym, ◌∙◌, ap, subst}
 use Rattle.label_limits.specs.declared.limits.Limits.{Limits}
 use Rattle.wasm_semantics.specs.Threads.{Thread}
 use Rattle.host_rules.specs.Rules.{limits_at}
@@ -31,20 +31,20 @@ returns-in-Raised-clause-moved g c = λ before s keeps.
     subst (λ (e : Ending). Makes g.F.Facets.rows loan c.raise.result (run_closes loan r before c.args.given e s)
     c.raise.new.self c.args.lines.now c.raise.new.lines) (sym c.in-Raised.is) (c.raise.ensures.moved before c.args.given s keeps)
 
-pub returns-in-Spent-then-run-given-clause-moved : goal.returns-in-Spent-then-run-given-clause-moved
-returns-in-Spent-then-run-given-clause-moved g c = λ before s keeps.
+pub returns-then-run-given-clause-moved : goal.returns-then-run-given-clause-moved
+returns-then-run-given-clause-moved g c = λ before s keeps.
     let loan = c.args.lent.now in
     let r = c.args.run in
     let same : r.used + c.args.given ≡ (limits_at (rules_in loan) r.at.number).fuel = c.if-run-given.true ∙ ap (λ (x : Limits). x.fuel) c.limits.ensures in
-    subst (λ (e : Ending). Makes g.F.Facets.rows loan c.finish-in-Spent.result (run_closes loan r before c.args.given e s) c.finish-in-Spent.new.self c.args.lines.now c.finish-in-Spent.new.lines) (sym c.in-Spent.is)
-    (subst (λ (m : Moved Thread). Makes g.F.Facets.rows loan c.finish-in-Spent.result m c.finish-in-Spent.new.self c.args.lines.now c.finish-in-Spent.new.lines) (sym (fuel_used loan r before c.args.given c.in-Spent.sandbox s same))
-    (c.finish-in-Spent.ensures.moved before s keeps))
+    subst (λ (e : Ending). Makes g.F.Facets.rows loan c.finish-then-run-given.result (run_closes loan r before c.args.given e s) c.finish-then-run-given.new.self c.args.lines.now c.finish-then-run-given.new.lines) (sym c.in-Spent.is)
+    (subst (λ (m : Moved Thread). Makes g.F.Facets.rows loan c.finish-then-run-given.result m c.finish-then-run-given.new.self c.args.lines.now c.finish-then-run-given.new.lines) (sym (fuel_used loan r before c.args.given c.in-Spent.sandbox s same))
+    (c.finish-then-run-given.ensures.moved before s keeps))
 
-pub returns-in-Spent-else-run-given-clause-moved : goal.returns-in-Spent-else-run-given-clause-moved
-returns-in-Spent-else-run-given-clause-moved g c = λ before s keeps.
+pub returns-else-run-given-clause-moved : goal.returns-else-run-given-clause-moved
+returns-else-run-given-clause-moved g c = λ before s keeps.
     let loan = c.args.lent.now in
     let r = c.args.run in
-    let other = λ e. c.if-run-given.false (e ∙ sym (ap (λ (x : Limits). x.fuel) c.limits.ensures)) in
+    let other : r.used + c.args.given ≢ (limits_at (rules_in loan) r.at.number).fuel = λ e. c.if-run-given.false (e ∙ sym (ap (λ (x : Limits). x.fuel) c.limits.ensures)) in
     subst (λ (e : Ending). Makes g.F.Facets.rows loan c.wait.result (run_closes loan r before c.args.given e s) c.wait.new.self c.args.lines.now c.wait.new.lines) (sym c.in-Spent.is)
     (subst (λ (m : Moved Thread). Makes g.F.Facets.rows loan c.wait.result m c.wait.new.self c.args.lines.now c.wait.new.lines) (sym (fuel_left loan r before c.args.given c.in-Spent.sandbox s other))
     (c.wait.ensures.moved before s keeps))
