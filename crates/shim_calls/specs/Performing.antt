@@ -20,6 +20,7 @@ use Rattle.host_rules.specs.States.{Activation, State, Moved, Out, fresh, keep, 
 use Rattle.host_rules.specs.Calls.{Called, Resumed, RaisedTo, Refused, answer_lines}
 use Rattle.host_rules.specs.Calls.{Effect as Does}
 use Rattle.host_rules.specs.Effects.{arrive, reply, let_in, apply}
+use Rattle.trapeze_io.specs.Sizes.{longest_value}
 use Rattle.shim_calls.specs.declared.effect.ShimTrap.{ShimTrap}
 use Rattle.shim_calls.specs.declared.effect.ShimTrap.TheVariants as trap
 use Rattle.shim_calls.specs.declared.effect.Effect.{Effect}
@@ -69,12 +70,12 @@ Performs P m c a s called rows (performed.Trapped trap) = (called ≡ Refused (c
 -- where a message goes, a label and a function below these counts, and its bytes within their limit
 abbrev pub IsFitMessage : ℕ → ℕ → List ℕ → Option (Label × ℕ) → Type 0
 IsFitMessage labels functions bytes None = Unit {0}
-IsFitMessage labels functions bytes (Some to) = (to.0.number < labels) × (to.1 < functions) × (length bytes ≤ 65536)
+IsFitMessage labels functions bytes (Some to) = (to.0.number < labels) × (to.1 < functions) × (length bytes ≤ longest_value)
 
 -- the labels and the function of a gate below these counts, and the bytes that pass it within their limit
 abbrev pub IsFitRelease : ℕ → ℕ → Gate → List ℕ → Type 0
 IsFitRelease labels functions gate bytes =
-    (gate.source.number < labels) × (gate.target.number < labels) × (gate.function < functions) × (length bytes ≤ 65536)
+    (gate.source.number < labels) × (gate.target.number < labels) × (gate.function < functions) × (length bytes ≤ longest_value)
 
 -- labels and functions below these counts, bytes within their limits
 abbrev pub IsFitEffect : ℕ → ℕ → Option Effect → Type 0

@@ -4,7 +4,7 @@ use Rattle.std.specs.Prelude.{ok_or, if◌then◌else◌}
 use Rattle.trapeze_io.specs.Answers.{◌>>=◌}
 use Rattle.gate_rules.specs.Gates.{filtered}
 use Rattle.facet_list.specs.Store.{Write}
-use Rattle.facet_list.specs.Rows.{Rows, rows_of, IsKey, IsValue}
+use Rattle.facet_list.specs.Rows.{Rows, rows_of, IsValue}
 use Rattle.trapeze_lines.specs.declared.line.Line.{Line}
 use Rattle.trapeze_lines.specs.declared.outcome.Cause.{Cause}
 use Rattle.trapeze_lines.specs.declared.outcome.Cause.TheVariants.{Unknown}
@@ -18,6 +18,7 @@ use Rattle.host_rules.specs.States.{Activation, State, still, then_lines}
 use Rattle.host_rules.specs.Calls.{Called, copied, granted}
 use Rattle.host_rules.specs.Modules.{guest_of}
 use Rattle.host_rules.specs.Wishes as wishes
+use Rattle.trapeze_io.specs.Sizes.{IsKey}
 use Rattle.shim_calls.specs.declared.effect.Effect.{Effect}
 use Rattle.shim_calls.specs.declared.effect.Performed.{Performed}
 use Rattle.shim_calls.specs.declared.wish.Wish.{Wish}

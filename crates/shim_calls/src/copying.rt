@@ -4,6 +4,7 @@ ghost use Rattle.std.specs.Prelude.{◌≡◌, ℕ, ◌≤◌, length, take, tru
 ghost use Rattle.wasm_ast.specs.declared.modules.Module.{Module};
 ghost use Rattle.wasm_exec.specs.Asking.{has_answer};
 ghost use Rattle.sandbox.specs.Threads.{IsWaiting, asked_of};
+ghost use Rattle.trapeze_io.specs.Sizes.{longest_value};
 ghost use Rattle.shim_calls.specs.Performing.{IsFitEffect, IsFitPerformed, IsReadyPerformed};
 ghost use Rattle.shim_calls.specs.Wished.{Copies};
 
@@ -19,7 +20,7 @@ pub(crate) fn copied(
     bytes: &[u8],
     effect: Option<Effect>,
 ) -> Result<Performed, NoMemory>
-    requires few { length bytes.now ≤ 65536 }
+    requires few { length bytes.now ≤ longest_value }
     requires wants { has_answer (asked_of suspended).name ≡ true }
     ensures performed { IfOk result (Copies suspended at cap bytes.now effect) }
     ensures ready { IfOk result

@@ -12,6 +12,7 @@ ghost use Rattle.host_rules.specs.Wishes.{Wish as Wished, Raises};
 ghost use Rattle.host_rules.specs.Calls.{shim};
 ghost use Rattle.host_rules.specs.Policies.{rules_of};
 ghost use Rattle.host_rules.specs.Modules.{guest_of};
+ghost use Rattle.trapeze_io.specs.Sizes.{longest_value};
 ghost use Rattle.shim_calls.specs.Performing.{asked_in, Performs, IsFitPerformed, IsReadyPerformed};
 ghost use Rattle.shim_calls.specs.Wished.{shown, wants_answer, IsFitWish, Grants};
 
@@ -57,7 +58,7 @@ fn grant<F: Facets>(
     wish: Wish,
 ) -> Result<Performed, NoMemory>
     requires at { at.number < count policy.now.lattice }
-    requires input { length input.now ≤ 65536 }
+    requires input { length input.now ≤ longest_value }
     requires limits { F.limits facets.old ≡ policy.now.limits }
     requires wants { wants_answer wish ≡ has_answer (asked_of suspended).name }
     requires fit { IsFitWish (count policy.now.lattice) (length policy.now.functions) wish }
@@ -112,7 +113,7 @@ pub fn perform<F: Facets>(
     facets: &mut F,
 ) -> Result<Performed, NoMemory>
     requires at { at.number < count policy.now.lattice }
-    requires input { length input.now ≤ 65536 }
+    requires input { length input.now ≤ longest_value }
     requires limits { F.limits facets.old ≡ policy.now.limits }
     ensures performed { IfOk result
         (λ done. (m : Module) (modules : List Module) (a : Activation Thread) (s : State Thread) →

@@ -17,14 +17,14 @@ use trapeze_io::Bytes;
 pub(crate) fn source(
     alloc: Global,
     suspended: &Suspended,
-    limit: u32,
+    limit: usize,
     at: u32,
     len: u32,
 ) -> Result<Bytes, Refused>
     ensures bytes { Answers fault_of (source limit (memory_of suspended.now) at len) result }
     ensures few { IfOk result (λ bytes. length bytes ≤ limit) }
 {
-    if len > limit {
+    if len as usize > limit {
         return Err(Refused::Trapped(ShimTrap::Size));
     }
     let Ok(mut bytes) = vec![in alloc; 0; len as usize] else {

@@ -7,6 +7,7 @@ ghost use Rattle.wasm_exec.specs.Asking.{has_answer};
 ghost use Rattle.sandbox.specs.Threads.{memory_of, asked_of};
 ghost use Rattle.host_rules.specs.Policies.{rules_of};
 ghost use Rattle.host_rules.specs.Wishes.{wish};
+ghost use Rattle.trapeze_io.specs.Sizes.{longest_value};
 ghost use Rattle.shim_calls.specs.Performing.{asked_in};
 ghost use Rattle.shim_calls.specs.Wished.{fault_of, wished, sends, raises, releases};
 ghost use Rattle.shim_calls.specs.Wished.{IsFitWish, wants_answer};
@@ -20,13 +21,13 @@ use labelled_channel::Delivery;
 use policy_toml::Policy;
 use sandbox::Suspended;
 use std::alloc::Global;
-use trapeze_io::{Bytes, Name};
+use trapeze_io::{Bytes, LONGEST_KEY, LONGEST_VALUE, Name};
 use wasm_ast::HostName;
 
 /// A message into the channel with this name.
 fn sent(policy: &Policy, at: Label, name: &[u8], bytes: Bytes) -> Result<Wish, Refused>
     requires at { at.number < count policy.now.lattice }
-    requires few { length bytes ≤ 65536 }
+    requires few { length bytes ≤ longest_value }
     ensures wish { let P = rules_of policy.now in
         Answers fault_of (wished P at.number (sends P name.now bytes)) result }
     ensures wants { IfOk result (λ wish. wants_answer wish ≡ false) }
@@ -60,7 +61,7 @@ fn raised(policy: &Policy, at: Label, name: &[u8]) -> Result<Wish, Refused>
 /// A release through the gate with this name.
 fn released(policy: &Policy, at: Label, name: &[u8], bytes: Bytes) -> Result<Wish, Refused>
     requires at { at.number < count policy.now.lattice }
-    requires few { length bytes ≤ 65536 }
+    requires few { length bytes ≤ longest_value }
     ensures wish { let P = rules_of policy.now in
         Answers fault_of (wished P at.number (releases P name.now bytes)) result }
     ensures wants { IfOk result (λ wish. wants_answer wish ≡ false) }
@@ -95,24 +96,24 @@ pub(crate) fn wish(
     match asked.name {
         HostName::Input => Ok(Wish::Input { at: x, cap: y }),
         HostName::Read => {
-            let key = source(alloc, suspended, 1024, x, y)?;
+            let key = source(alloc, suspended, LONGEST_KEY, x, y)?;
             Ok(Wish::Read { key, at: z, cap: w })
         }
         HostName::Write => {
-            let key = source(alloc, suspended, 1024, x, y)?;
-            let value = source(alloc, suspended, 65_536, z, w)?;
+            let key = source(alloc, suspended, LONGEST_KEY, x, y)?;
+            let value = source(alloc, suspended, LONGEST_VALUE, z, w)?;
             Ok(Wish::Write {
                 key,
                 value: Some(value),
             })
         }
         HostName::Delete => {
-            let key = source(alloc, suspended, 1024, x, y)?;
+            let key = source(alloc, suspended, LONGEST_KEY, x, y)?;
             Ok(Wish::Write { key, value: None })
         }
         HostName::Send => {
             let name = NameBytes::fetch(suspended, x, y)?;
-            let bytes = source(alloc, suspended, 65_536, z, w)?;
+            let bytes = source(alloc, suspended, LONGEST_VALUE, z, w)?;
             sent(policy, at, name.as_slice(), bytes)
         }
         HostName::Raise => {
@@ -120,13 +121,13 @@ pub(crate) fn wish(
             raised(policy, at, name.as_slice())
         }
         HostName::Reply => {
-            let bytes = source(alloc, suspended, 65_536, x, y)?;
+            let bytes = source(alloc, suspended, LONGEST_VALUE, x, y)?;
             Ok(Wish::Reply { bytes })
         }
         HostName::OwnLabel => Ok(Wish::OwnLabel { at: x, cap: y }),
         HostName::Release => {
             let name = NameBytes::fetch(suspended, x, y)?;
-            let bytes = source(alloc, suspended, 65_536, z, w)?;
+            let bytes = source(alloc, suspended, LONGEST_VALUE, z, w)?;
             released(policy, at, name.as_slice(), bytes)
         }
     }

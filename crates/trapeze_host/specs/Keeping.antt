@@ -13,6 +13,7 @@ use Rattle.wasm_semantics.specs.Threads.{Thread}
 use Rattle.sandbox.specs.Threads.{thread_of, IsReady}
 use Rattle.host_rules.specs.States as rules
 use Rattle.host_rules.specs.Regular.{IsTaken}
+use Rattle.trapeze_io.specs.Sizes.{longest_value}
 use Rattle.trapeze_host.specs.declared.kept.Serving.{Serving}
 use Rattle.trapeze_host.specs.declared.kept.Activation.{Activation}
 use Rattle.trapeze_host.specs.declared.kept.Kept.{Kept}
@@ -91,7 +92,7 @@ pub record IsServed (loan : Loan) (requests : Requests) (x : Serving) : Type 0 w
 -- an activation of one of the functions, whose sandbox can go on
 pub record IsFit (loan : Loan) (requests : Requests) (a : Activation) : Type 0 where
   pub function : a.function < length loan.policy.functions
-  pub input : length a.input ≤ 65536
+  pub input : length a.input ≤ longest_value
   pub serves : ForSome a.serves (IsServed loan requests)
   pub ready : ForSome a.sandbox (IsReady (module_in loan a.function))
 

@@ -20,6 +20,7 @@ use Rattle.host_rules.specs.States as rules
 use Rattle.host_rules.specs.Calls.{shim, answer_lines}
 use Rattle.host_rules.specs.Effects.{reply}
 use Rattle.host_rules.specs.Turns as turns
+use Rattle.trapeze_io.specs.Sizes.{longest_value}
 use Rattle.shim_calls.specs.declared.effect.Effect.{Effect}
 use Rattle.shim_calls.specs.Performing.{asked_in, made}
 use Rattle.trapeze_host.specs.declared.kept.Kept.{Kept}
@@ -47,7 +48,7 @@ run_of before r = record {
 pub record IsRun (loan : Loan) (requests : Requests) (r : Run) : Type 0 where
   pub at : r.at.number < count loan.policy.lattice
   pub function : r.function < length loan.policy.functions
-  pub input : length r.input ≤ 65536
+  pub input : length r.input ≤ longest_value
   pub serves : ForSome r.serves (IsServed loan requests)
 
 -- how a stint in the module ended, as the rules see it
