@@ -4,7 +4,7 @@ use Rattle.wasm_ast.specs.declared.modules.Module.{Module}
 use Rattle.wasm_semantics.specs.Threads.{Thread}
 use Rattle.wasm_semantics.specs.Units.{units}
 use Rattle.host_rules.specs.Guests.{OneUnit, Goes, Calls, Done, Traps, Guest}
-use Rattle.host_rules.specs.Modules.{unit_of, module_of, guest_of}
+use Rattle.host_rules.specs.Modules.{unit_of, module_at, guest_of}
 use Rattle.host_rules.specs.Rules.{Rules, limits_at}
 use Rattle.host_rules.specs.States.{Activation, State, set_at}
 use Rattle.host_rules.specs.Calls.{shim}
@@ -20,7 +20,7 @@ after_run P M c a left (Traps cause) s = stops s (Trapped cause)
 -- a stint of n units is what comes after the run of at most n units of the engine
 abbrev pub GoesByRuns : Type 0
 GoesByRuns = (P : Rules) (modules : List Module) (c n : ℕ) (a : Activation Thread) (t : Thread) (s : State Thread) →
-    let r = units (module_of modules a.function) (limits_at P c).pages t n in
+    let r = units (module_at modules a.function) (limits_at P c).pages t n in
     stint P (guest_of modules) c a n t s ≡ after_run P (guest_of modules) c a (n - r.used) (unit_of r.stop) s
 
 -- another activation in the place of the front of a label's list

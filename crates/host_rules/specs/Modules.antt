@@ -48,15 +48,15 @@ no_module = record {
 }
 
 -- the module of a function; a policy has one for each function
-abbrev pub module_of : List Module → ℕ → Module
-module_of modules f = slice_index_or modules f no_module
+abbrev pub module_at : List Module → ℕ → Module
+module_at modules f = slice_index_or modules f no_module
 
 -- the guest of these modules, by function number
 abbrev pub guest_of : List Module → Guest Thread
 guest_of modules = record {
-  begin = λ f. begin (module_of modules f);
-  minimum = λ f. first_pages (module_of modules f);
-  unit = λ f pages t. unit_of (unit (module_of modules f) pages t);
+  begin = λ f. begin (module_at modules f);
+  minimum = λ f. first_pages (module_at modules f);
+  unit = λ f pages t. unit_of (unit (module_at modules f) pages t);
   memory = λ t. t.store.memory;
   answer = λ t memory answer. answered (with_memory t memory) answer;
 }

@@ -18,7 +18,7 @@ use Rattle.shim_calls.specs.Performing.{asked_in}
 use Rattle.host_rules.specs.Rules.{Rules, limits_at}
 use Rattle.host_rules.specs.States.{Activation, State}
 use Rattle.host_rules.specs.Guests.{Guest}
-use Rattle.host_rules.specs.Modules.{cause_of, unit_of, module_of, guest_of}
+use Rattle.host_rules.specs.Modules.{cause_of, unit_of, module_at, guest_of}
 use Rattle.host_rules.specs.Wishes.{wish_of}
 use Rattle.host_rules.specs.Calls.{shim, after_wish, granted}
 use Rattle.host_rules.specs.Turns.{Ended, Trapped, Spent, Stint, stops, after_call, stint}
@@ -44,7 +44,7 @@ in_places P M c a s name args places t e =
     ∙ ap (λ (xs : List ℕ). shim P M c a s.store (record { name = name; args = xs }) t) (sym e)
 
 module _ (law : GoesByRuns) (P : Rules) (modules : List Module) (c : ℕ) (a : Activation Thread) (left used pages : ℕ) (m : Module) (t : Thread)
-    (own : m ≡ module_of modules a.function) (limit : pages ≡ (limits_at P c).pages) where
+    (own : m ≡ module_at modules a.function) (limit : pages ≡ (limits_at P c).pages) where
   ran : (s : State Thread) (stop : Outcome) → units m pages t left ≡ record { used = used; stop = stop }
       → stint P (guest_of modules) c a left t s ≡ after_run P (guest_of modules) c a (left - used) (unit_of stop) s
   ran s stop e = law P modules c left a t s ∙ ap (λ (r : Course). after_run P (guest_of modules) c a (left - r.used) (unit_of r.stop) s)

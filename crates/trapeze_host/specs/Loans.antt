@@ -7,7 +7,7 @@ use Rattle.wasm_semantics.specs.Threads.{Thread}
 use Rattle.host_rules.specs.Rules.{Rules}
 use Rattle.host_rules.specs.Policies.{rules_of}
 use Rattle.host_rules.specs.Guests.{Guest}
-use Rattle.host_rules.specs.Modules.{module_of, guest_of}
+use Rattle.host_rules.specs.Modules.{module_at, guest_of}
 
 -- a policy, and the modules of its functions
 pub record Loan : Type 0 where
@@ -27,4 +27,4 @@ guest_in loan = guest_of loan.modules
 
 -- the module of a function
 abbrev pub module_in : Loan → ℕ → Module
-module_in loan f = module_of loan.modules f
+module_in loan f = module_at loan.modules f

@@ -7,11 +7,11 @@ use Rattle.std.proofs.lemmas.List.{drop-drop, drop-take, length-take-le}
 use Rattle.std.specs.Prelude.{slice_range}
 use Rattle.wasm_ast.specs.declared.trees.Seq.{Seq}
 use Rattle.wasm_code.specs.Places.{Fails, Place, part}
-use Rattle.wasm_code.specs.Fields.{filled}
+use Rattle.wasm_code.specs.Fields.{filling}
 use Rattle.wasm_code.specs.Reading.{expr, expr_to, body}
 use Rattle.wasm_code.specs.Grammar.{Expr, ExprTo, IsBody}
 use Rattle.wasm_code.proofs.Joined.{bind, bind_ok, ok_is, here}
-use Rattle.wasm_code.proofs.Fielded.{filled_sound, filled_complete}
+use Rattle.wasm_code.proofs.Fielded.{filling_sound, filling_complete}
 use Rattle.wasm_code.proofs.Bodied.{expr_reads, body_reads}
 use Rattle.wasm_code.proofs.Moving.{expr_goes}
 use Rattle.wasm_code.specs.Answers.{Gives, OrNoMemory}
@@ -46,8 +46,8 @@ pub first : {X : Type 0} (reading result : Result X DecodeError) → Gives (λ x
 first reading result g e h = answer_by reading result (Err e) g h
 
 -- bodies
-pub body_is : (f : ℕ) (p : Place) → Reads (λ b. IsBody b p.rest []) (filled (body f) p)
-body_is f p = record { sound = λ b e. filled_sound IsBody (body f) (body_reads f) p b e; complete = λ b d. filled_complete IsBody (body f) (body_reads f) b p d }
+pub body_is : (f : ℕ) (p : Place) → Reads (λ b. IsBody b p.rest []) (filling (body f) p)
+body_is f p = record { sound = λ b e. filling_sound IsBody (body f) (body_reads f) p b e; complete = λ b d. filling_complete IsBody (body f) (body_reads f) b p d }
 
 -- expressions, with the offset behind them
 range_length : (start end : ℕ) (bytes : List ℕ) → end ≤ length bytes → length (slice_range bytes start end) ≡ end - start

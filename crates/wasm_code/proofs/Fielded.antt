@@ -13,7 +13,7 @@ use Rattle.wasm_leb.proofs.Roundtrip.{again, spelled}
 use Rattle.wasm_ast.specs.declared.val_types.ValType.{ValType}
 use Rattle.wasm_ast.specs.declared.val_types.ValType.TheVariants.{I32, I64, F32, F64}
 use Rattle.wasm_code.specs.Places.{Place, Reading, ◌>>=◌, past, check, ended}
-use Rattle.wasm_code.specs.Fields.{number_of, u32, s32, s64, raw, bits32, bits64, val_type_of, val_type, times, vector, range, filled, sized, bytes, name}
+use Rattle.wasm_code.specs.Fields.{number_of, u32, s32, s64, raw, bits32, bits64, val_type_of, val_type, times, vector, range, filling, sized, bytes, name}
 use Rattle.wasm_code.specs.Spelling.{Byte, Raw, Integer, U32, S32, S64, Bits32, Bits64, Members, Vector, Bytes, Sized, Name, val_byte, Val}
 use Rattle.wasm_code.specs.Reading.{block_type_of, block_type}
 use Rattle.wasm_code.specs.Grammar.{block_byte}
@@ -199,25 +199,25 @@ range_complete inner p rest d =
 pub ended_nil : (p : Place) (t : Unit {0}) → ended p ≡ Ok t → p.rest ≡ []
 ended_nil p t e = nil_from_length p.rest (eqb-true (length p.rest) 0 (check_ok (length p.rest == 0) p.at t e))
 
-pub filled_sound : {X : Type 0} (G : X → List ℕ → List ℕ → Type 0) (read : Place → Reading X) → Reads G read → (p : Place) (x : X) → filled read p ≡ Ok x → G x p.rest []
-filled_sound G read a p x e =
+pub filling_sound : {X : Type 0} (G : X → List ℕ → List ℕ → Type 0) (read : Place → Reading X) → Reads G read → (p : Place) (x : X) → filling read p ≡ Ok x → G x p.rest []
+filling_sound G read a p x e =
     let y = bind_ok (read p) (λ y. ended y.1 >>= λ t. Ok y.0) x e in
     let t = bind_ok (ended y.0.1) (λ t. Ok y.0.0) x y.2 in
     let g : G y.0.0 p.rest [] = subst (λ z. G y.0.0 p.rest z) (ended_nil y.0.1 t.0 t.1) (a.sound p y.0 y.1).spells in
     subst (λ x. G x p.rest []) (ok_is y.0.0 x t.2) g
 
-pub filled_complete : {X : Type 0} (G : X → List ℕ → List ℕ → Type 0) (read : Place → Reading X) → Reads G read → (x : X) (p : Place) → G x p.rest [] → filled read p ≡ Ok x
-filled_complete G read a x p d =
+pub filling_complete : {X : Type 0} (G : X → List ℕ → List ℕ → Type 0) (read : Place → Reading X) → Reads G read → (x : X) (p : Place) → G x p.rest [] → filling read p ≡ Ok x
+filling_complete G read a x p d =
     let c = a.complete x p [] d in
     bind (read p) (λ y. ended y.1 >>= λ t. Ok y.0) (x, here [] c.0) c.1
 
 sized_sound : {X : Type 0} (G : X → List ℕ → List ℕ → Type 0) (read : Place → Reading X) → Reads G read → (p : Place) (y : X × Place) → sized read p ≡ Ok y → Was (Sized G) p y
 unfolding sized
 sized_sound G read a p y e =
-    let r = bind_ok (range p) (λ r. filled read r.0 >>= λ x. Ok (x, r.1)) y e in
-    let x = bind_ok (filled read r.0.0) (λ x. Ok (x, r.0.1)) y r.2 in
+    let r = bind_ok (range p) (λ r. filling read r.0 >>= λ x. Ok (x, r.1)) y e in
+    let x = bind_ok (filling read r.0.0) (λ x. Ok (x, r.0.1)) y r.2 in
     let s = range_sound p r.0 r.1 in
-    subst (Was (Sized G) p) (ok_is (x.0, r.0.1) y x.2) (record { spells = (r.0.0.rest, s.0, filled_sound G read a r.0.0 x.0 x.1); shorter = s.1 })
+    subst (Was (Sized G) p) (ok_is (x.0, r.0.1) y x.2) (record { spells = (r.0.0.rest, s.0, filling_sound G read a r.0.0 x.0 x.1); shorter = s.1 })
 
 sized_complete : {X : Type 0} (G : X → List ℕ → List ℕ → Type 0) (read : Place → Reading X) → Reads G read → (x : X) (p : Place) (rest : List ℕ) → Sized G x p.rest rest
     → (at : ℕ) × (sized read p ≡ Ok (x, here rest at))
@@ -227,8 +227,8 @@ sized_complete G read a x p rest d =
     let inner = here d.0 r.0 in
     let after = here rest r.1 in (
       r.1,
-      bind (range p) (λ r. filled read r.0 >>= λ x. Ok (x, r.1)) (inner, after) r.2
-          ∙ bind (filled read inner) (λ x. Ok (x, after)) x (filled_complete G read a x inner d.2),
+      bind (range p) (λ r. filling read r.0 >>= λ x. Ok (x, r.1)) (inner, after) r.2
+          ∙ bind (filling read inner) (λ x. Ok (x, after)) x (filling_complete G read a x inner d.2),
     )
 
 pub sized_reads : {X : Type 0} (G : X → List ℕ → List ℕ → Type 0) (read : Place → Reading X) → Reads G read → Reads (Sized G) (sized read)

@@ -12,7 +12,7 @@ use Rattle.wasm_code.specs.declared.error.DecodeError.{DecodeError}
 use Rattle.wasm_code.specs.declared.error.DecodeError.TheVariants.{Malformed, TooDeep, TooManyLocals, NoMemory}
 use Rattle.wasm_code.specs.Places.{Place, Reading, ◌>>=◌, past, byte, byte_of, check, ended}
 use Rattle.wasm_code.specs.Agreement.{Agrees, IsFurther, IsWithin}
-use Rattle.wasm_code.specs.Fields.{number_of, u32, s32, s64, raw, bits32, bits64, tag, one_of, one_of_at, val_type, times, vector, range, filled, sized, bytes, name}
+use Rattle.wasm_code.specs.Fields.{number_of, u32, s32, s64, raw, bits32, bits64, tag, one_of, one_of_at, val_type, times, vector, range, filling, sized, bytes, name}
 use Rattle.wasm_code.proofs.Joined.{ok_is, check_ok, here, bind_ok, Reads}
 
 -- a reading from p: where it goes on, and where its faults are
@@ -216,8 +216,8 @@ range_moves p = record { further = λ r e. (range_cut p r e).after; within = ran
 pub ranged : {X : Type 0} (p : Place) (on : X → Place) (f : Place × Place → Result X DecodeError) → ((r : Place × Place) → Inside p r.0 → IsFurther p r.1 → Moves p on (f r)) → Moves p on (range p >>= f)
 ranged p on f h = moves_then p after_range on (range p) f (range_moves p) (λ r e k. h r (range_inside p r e) k)
 
-pub filled_within : {X : Type 0} (read : Place → Reading X) → Goes read → (p : Place) (e : DecodeError) → filled read p ≡ Err e → IsWithin p e
-filled_within read m p e h =
+pub filling_within : {X : Type 0} (read : Place → Reading X) → Goes read → (p : Place) (e : DecodeError) → filling read p ≡ Err e → IsWithin p e
+filling_within read m p e h =
     let g = moves_then p behind_it (λ x. p) (read p) (λ x. ended x.1 >>= λ t. Ok x.0) (m p)
     (λ x k l. moves_then p (λ t. p) (λ x. p) (ended x.1) (λ t. Ok x.0) (record { further = λ t _. stays p; within = λ e h. wider p x.1 e (inside p x.1 l) ((ends x.1).within e h) })
     (λ t _ _. moves_ok p (λ x. p) x.0 (stays p))) in
@@ -226,8 +226,8 @@ filled_within read m p e h =
 pub sized_goes : {X : Type 0} (read : Place → Reading X) → Goes read → Goes (sized read)
 unfolding sized
 sized_goes read m p =
-    ranged p behind_it (λ r. filled read r.0 >>= λ x. Ok (x, r.1))
-    (λ r i k. moves_then p (λ x. p) behind_it (filled read r.0) (λ x. Ok (x, r.1)) (record { further = λ x e. stays p; within = λ e h. wider p r.0 e i (filled_within read m r.0 e h) })
+    ranged p behind_it (λ r. filling read r.0 >>= λ x. Ok (x, r.1))
+    (λ r i k. moves_then p (λ x. p) behind_it (filling read r.0) (λ x. Ok (x, r.1)) (record { further = λ x e. stays p; within = λ e h. wider p r.0 e i (filling_within read m r.0 e h) })
     (λ x e l. moves_ok p behind_it (x, r.1) k))
 
 pub bytes_goes : Goes bytes

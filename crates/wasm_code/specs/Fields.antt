@@ -88,9 +88,9 @@ range p = do
   t ← check (nat_le n.0 (length n.1.rest)) p.at
   Ok (record { rest = take n.0 n.1.rest; at = n.1.at }, past n.0 n.1)
 
--- what fills all that is left of a range
-abbrev pub filled : {X : Type 0} → (Place → Reading X) → Place → Result X DecodeError
-filled read p = do
+-- a reading that fills all that is left of a range
+abbrev pub filling : {X : Type 0} → (Place → Reading X) → Place → Result X DecodeError
+filling read p = do
   x ← read p
   t ← ended x.1
   Ok x.0
@@ -99,7 +99,7 @@ filled read p = do
 unfoldable pub sized : {X : Type 0} → (Place → Reading X) → Place → Reading X
 sized read p = do
   r ← range p
-  x ← filled read r.0
+  x ← filling read r.0
   Ok (x, r.1)
 
 -- a vector of bytes

@@ -1,5 +1,6 @@
 -- The opcodes of the instructions that hold no instructions (WebAssembly Core 1.0, 5.4, with the additions of Core 2.0).
-use Rattle.std.specs.Prelude.{ℕ, Bool, ◌&&◌, ◌||◌, nat_le, nat_eq, if◌then◌else◌, List, Option, Some, None}
+use Rattle.std.specs.Prelude.{ℕ, Bool, ◌||◌, nat_le, nat_eq, if◌then◌else◌, List, Option, Some, None}
+use Rattle.wasm_ast.specs.Operators.{between}
 use Rattle.wasm_ast.specs.declared.trees.Instr.{Instr}
 use Rattle.wasm_ast.specs.declared.trees.Instr.TheVariants as V
 
@@ -16,9 +17,6 @@ pub data Kind : Type 0 where
   Float32 : (ℕ → Instr) → Kind  -- 4 raw bytes
   Float64 : (ℕ → Instr) → Kind  -- 8 raw bytes
   Bulk : Kind  -- an integer that says which instruction, and its bytes 00
-
-abbrev pub between : ℕ → ℕ → ℕ → Bool
-between low high op = nat_le low op && nat_le op high
 
 -- control (5.4.1), parametric (5.4.2) and variable instructions (5.4.3)
 abbrev pub control : ℕ → Option Kind

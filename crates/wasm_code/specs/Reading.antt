@@ -13,7 +13,7 @@ use Rattle.wasm_code.specs.declared.frames.Opened.{Opened}
 use Rattle.wasm_code.specs.declared.frames.Opened.TheVariants as opened
 use Rattle.wasm_code.specs.declared.frames.Frame.{Frame}
 use Rattle.wasm_code.specs.Places.{Place, Reading, ◌>>=◌, byte}
-use Rattle.wasm_code.specs.Fields.{tag, one_of, u32, s32, s64, bits32, bits64, vector, filled, val_type, val_type_of}
+use Rattle.wasm_code.specs.Fields.{tag, one_of, u32, s32, s64, bits32, bits64, vector, filling, val_type, val_type_of}
 use Rattle.wasm_code.specs.Opcodes.{Kind, Bare, Zero, Index, IndexZero, Labels, Memory, Signed32, Signed64, Float32, Float64, Bulk, kind_of}
 
 -- block types (5.3.2): 40 for none, or a value type
@@ -187,4 +187,4 @@ body f p = do
 
 -- the body numbered f, which fills what is left of a range
 abbrev pub whole_body : ℕ → Place → Result Body DecodeError
-whole_body f p = filled (body f) p
+whole_body f p = filling (body f) p

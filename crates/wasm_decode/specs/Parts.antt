@@ -106,7 +106,7 @@ export p = do
   index ← u32 kind.1
   Ok (record { name = text.0; kind = kind.0; index = index.0 }, index.1)
 
--- one integer: the start function (5.5.11), or the count of the data segments (Core 2.0, 5.5.16)
+-- one integer: the start function (5.5.11), or the count of the data segments (Core 2.0, 5.5.15)
 unfoldable pub number : Place → Reading (Option ℕ)
 number p = do
   n ← u32 p
@@ -133,7 +133,7 @@ abbrev pub is_counted : Option ℕ → ℕ → Bool
 is_counted None n = true
 is_counted (Some counted) n = nat_eq n counted
 
--- the data segments, whose count is the one that was told before, if it was (5.5.14; Core 2.0, 5.5.16)
+-- the data segments, whose count is the one that was told before, if it was (5.5.14; Core 2.0, 5.5.15)
 unfoldable pub pieces : Option ℕ → Place → Reading (List Piece)
 pieces counted p = do
   n ← u32 p

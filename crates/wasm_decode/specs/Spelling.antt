@@ -65,7 +65,7 @@ export_byte export_kind.Global = 0x03
 abbrev pub Exports : Export → List ℕ → List ℕ → Type 0
 Exports e bytes rest = Then (Name e.name) (Then (Byte (export_byte e.kind)) (U32 e.index)) bytes rest
 
--- one integer: the start function (5.5.11), or the count of the data segments (Core 2.0, 5.5.16)
+-- one integer: the start function (5.5.11), or the count of the data segments (Core 2.0, 5.5.15)
 abbrev pub Number : Option ℕ → List ℕ → List ℕ → Type 0
 Number found bytes rest = (n : ℕ) × (found ≡ Some n) × U32 n bytes rest
 
