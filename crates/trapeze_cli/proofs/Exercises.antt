@@ -1,5 +1,5 @@
 -- From an exercise to its words.
-use Rattle.std.proofs.Common.{◌≡◌, ℕ, List, Some, None, IfSome, inl, inr, refl, sym, ap, subst, ◌∙◌}
+use Rattle.std.proofs.Common.{◌≡◌, ℕ, List, Some, None, inl, inr, refl, sym, ap, subst, ◌∙◌}
 use Rattle.std.specs.declared.option.Option.{Option}
 use Rattle.trapeze_io.specs.Causes.{Rose}
 use Rattle.trapeze_io.specs.Seen.{Seen, Held, OpenFile}

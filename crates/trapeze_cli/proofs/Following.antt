@@ -1,18 +1,16 @@
 -- A reader that follows the bytes that it was fed, and what is then played of the whole file.
-use Rattle.std.proofs.Common.{◌≡◌, ℕ, ◌+◌, ◌-◌, ◌<◌, ◌≤◌, List, [], ◌∷◌, ◌++◌, length, take, drop, None, Some, Bool, true, false, cond, refl, sym, ap, ◌∙◌, append_assoc, append-nil, length-append, arith}
-use Rattle.std.specs.declared.option.Option.{Option}
+use Rattle.std.proofs.Common.{◌≡◌, ℕ, ◌+◌, ◌-◌, ◌<◌, ◌≤◌, List, [], ◌++◌, length, take, None, Some, Bool, true, false, cond, refl, sym, ap, ◌∙◌, append_assoc, append-nil, length-append, arith}
 use Rattle.std.specs.Prelude.{nat_lt}
 use Rattle.std.proofs.lemmas.Bool.{lt-ltb, le-ltb}
 use Rattle.std.proofs.Math.Seq.{take-append-add, take-append_seam}
 use Rattle.event_file.specs.Known.{Known}
-use Rattle.event_file.specs.Lines.{lines_of, is_too_long}
-use Rattle.event_file.specs.Script.{Entries, after, entries_of, entries_from}
+use Rattle.event_file.specs.Script.{Entries, after, entries_of}
 use Rattle.event_file.specs.Reader.{Reader, entries_with}
-use Rattle.event_file.specs.Heard.{counting, heard, heard_with}
+use Rattle.event_file.specs.Heard.{heard, heard_with}
 use Rattle.event_file.specs.declared.entry.Entry.{Entry}
 use Rattle.event_file.specs.declared.fault.LineError.{LineError}
 use Rattle.event_file.proofs.Hearing.{short_heard}
-use Rattle.trapeze_cli.specs.Played.{AtEnd, AtBad, PastLimit, Played, played_of, up_to}
+use Rattle.trapeze_cli.specs.Played.{AtEnd, AtBad, PastLimit, played_of, up_to}
 use Rattle.trapeze_cli.specs.Playing.{Passes, Fails, IsDry, Follows}
 use Rattle.trapeze_cli.proofs.Hearing.{Begins}
 use Rattle.trapeze_cli.proofs.Passing.{after_both, nothing_after}

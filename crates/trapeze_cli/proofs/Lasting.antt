@@ -1,24 +1,20 @@
 -- The last line of a file, which has no end, and the facets.
-use Rattle.std.proofs.Common.{◌≡◌, ℕ, List, [], ◌∷◌, ◌++◌, None, Some, Result, Ok, Err, sym, ap, subst, ◌∙◌}
+use Rattle.std.proofs.Common.{◌≡◌, ℕ, List, [], ◌∷◌, None, Some, Result, Err, sym, subst}
 use Rattle.std.specs.declared.option.Option.{Option}
 use Rattle.wasm_semantics.specs.Threads.{Thread}
 use Rattle.event_file.specs.Script.{Entries}
-use Rattle.event_file.specs.Reader.{Reader, entries_with}
-use Rattle.event_file.specs.Calls.{Completes}
 use Rattle.event_file.specs.declared.entry.Entry.{Entry}
 use Rattle.event_file.specs.declared.fault.LineError.{LineError}
-use Rattle.event_file.specs.declared.next.Next.TheVariants as next
 use Rattle.host_rules.specs.States.{State}
 use Rattle.host_rules.specs.Stores.{facet_lines}
 use Rattle.host_rules.specs.Play.{items_of}
 use Rattle.trapeze_cli.specs.declared.halt.Halt.{Halt}
-use Rattle.trapeze_cli.specs.declared.halt.Halt.TheVariants.{NoMemory}
 use Rattle.trapeze_cli.specs.Played.{AtEnd, end_at, entry_events, events_of}
 use Rattle.trapeze_cli.specs.Runs.{Setting}
 use Rattle.trapeze_cli.specs.Appends.{AppendsAll}
 use Rattle.trapeze_cli.specs.Playing.{AppendsBy, said_of, text_from, lines_from}
 use Rattle.trapeze_cli.proofs.Showing.{said_nothing}
-use Rattle.trapeze_cli.proofs.Fronts.{all_none, front_none, by_after, by_longer, by_halt}
+use Rattle.trapeze_cli.proofs.Fronts.{all_none, by_after, by_longer, by_halt}
 use Rattle.trapeze_cli.proofs.Playing.{state_after}
 use Rattle.trapeze_cli.proofs.Passing.{end_text}
 

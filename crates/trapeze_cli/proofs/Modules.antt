@@ -1,33 +1,30 @@
 -- The files of the functions, read one after the other.
-use Rattle.std.proofs.Common.{◌≡◌, ◌≢◌, ℕ, suc, ◌+◌, ◌<◌, ◌≤◌, List, [], ◌∷◌, ◌++◌, length, take, drop, Some, None, IfSome, Result, Ok, Err, inl, inr, refl, sym, ap, subst, ◌∙◌, arith, append_assoc, take-append-drop}
+use Rattle.std.proofs.Common.{◌≡◌, ℕ, suc, ◌+◌, List, [], ◌∷◌, ◌++◌, length, take, drop, Some, None, IfSome, Result, Ok, Err, inl, inr, refl, sym, ap, subst, ◌∙◌, arith, append_assoc, take-append-drop}
 use Rattle.std.specs.declared.option.Option.{Option}
-use Rattle.std.specs.Prelude.{slice_get, get_or, ◌⊎◌, IfOk, IfErr, IsErrAnd}
+use Rattle.std.specs.Prelude.{slice_get, ◌⊎◌, IfOk, IfErr, IsErrAnd}
 use Rattle.std.proofs.lemmas.Option.{slice_get_within, get_or_from_slice_get}
 use Rattle.std.proofs.lemmas.List.{take_more, length-take-le}
 use Rattle.trapeze_io.specs.Seen.{Seen, Held, OpensAll}
-use Rattle.trapeze_io.proofs.Opens.{OpensAll-append, OpensAll-held, OpensAll-faults}
+use Rattle.trapeze_io.proofs.Opens.{OpensAll-append, OpensAll-held}
 use Rattle.wasm_ast.specs.declared.modules.Module.{Module as Program}
-use Rattle.wasm_ast.specs.Faults.{Fault}
-use Rattle.wasm_ast.specs.Validity.{Valid, Invalidity}
+use Rattle.wasm_ast.specs.Validity.{Valid}
 use Rattle.wasm_code.specs.declared.error.DecodeError.{DecodeError}
 use Rattle.wasm_code.specs.declared.error.DecodeError.TheVariants as decode
 use Rattle.wasm_decode.specs.Grammar.{Spells}
 use Rattle.wasm_decode.specs.Sections.{Fails}
-use Rattle.wasm_validate.specs.Invalids.{fault_of, IsRefused as IsRefusedFor}
+use Rattle.wasm_validate.specs.Invalids.{IsRefused as IsRefusedFor}
 use Rattle.wasm_validate.specs.declared.invalid.Invalid.{Invalid as InvalidFault}
 use Rattle.wasm_validate.specs.declared.invalid.Invalid.TheVariants as invalid
 use Rattle.trapeze_cli.specs.declared.status.Status.{Status}
-use Rattle.trapeze_cli.specs.declared.status.Status.TheVariants.{Module, NoMemory, ReadFault}
-use Rattle.trapeze_cli.specs.declared.status.Input.{Input}
+use Rattle.trapeze_cli.specs.declared.status.Status.TheVariants.{Module, NoMemory}
 use Rattle.trapeze_cli.specs.declared.status.Input.TheVariants.{Module as module_input}
-use Rattle.trapeze_cli.specs.declared.status.ModuleFault.{ModuleFault}
 use Rattle.trapeze_cli.specs.declared.status.ModuleFault.TheVariants.{Decode, Invalid}
 use Rattle.trapeze_cli.specs.Forms.{Source, module_sources}
 use Rattle.trapeze_cli.specs.Command.{module_limit, file_of, IsModule, AreModules}
 use Rattle.trapeze_cli.specs.Judged.{IsTold, IsUnfit, IsJudged}
-use Rattle.trapeze_cli.specs.Opens.{names_of, IsLast, OpensTo}
-use Rattle.trapeze_cli.specs.Steps.{IsRefused, Ends, Steps, IsReachedModule}
-use Rattle.trapeze_cli.specs.Whys.{Why, Finished, Refused, ReadFailed, WriteFailed, OutOfMemory, why, IfReadFailed}
+use Rattle.trapeze_cli.specs.Opens.{names_of, OpensTo}
+use Rattle.trapeze_cli.specs.Steps.{Ends, Steps, IsReachedModule}
+use Rattle.trapeze_cli.specs.Whys.{why, IfReadFailed}
 use Rattle.trapeze_cli.proofs.Refusals.{IfSome-map, IfSome-all}
 use Rattle.trapeze_cli.proofs.StepsInTurn.{opens_one, names-append, ends_later, ends_first, ends_same, failed_input}
 

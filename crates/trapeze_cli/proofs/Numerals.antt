@@ -1,6 +1,6 @@
 -- What parsing says of the number that a word says.
 use Rattle.std.proofs.Common.{rules, ◌≡◌, ℕ, ◌<◌, ◌≤◌, ◌^◌, true, false, List, length, Ok, Err, Some, None, sym, ap, ◌∙◌, arith}
-use Rattle.std.specs.Prelude.{⊤, cond, nat_le, nat_lt, ◌&&◌}
+use Rattle.std.specs.Prelude.{⊤, nat_le, nat_lt, ◌&&◌}
 use Rattle.std.specs.Char.{is_ascii_digit}
 use Rattle.std.specs.List.{list_all}
 use Rattle.std.specs.Result.{OkIff}

@@ -1,24 +1,21 @@
 -- How a call ends by its tasks.
-use Rattle.std.proofs.Common.{◌≡◌, ℕ, ◌≤◌, List, [], length, Some, None, IfSome, Result, Ok, Err, ◌⊎◌, inl, inr, refl, sym, ap, subst, ◌∙◌}
+use Rattle.std.proofs.Common.{◌≡◌, ℕ, List, [], Some, None, IfSome, Result, Ok, Err, ◌⊎◌, inl, inr, refl, sym, ap, subst, ◌∙◌}
 use Rattle.std.specs.declared.option.Option.{Option}
 use Rattle.std.specs.Prelude.{IsSome}
 use Rattle.trapeze_io.specs.Seen.{Seen, Held, OpenFile}
-use Rattle.event_file.specs.Heard.{heard}
-use Rattle.event_file.specs.declared.fault.LineError.{LineError}
 use Rattle.host_rules.specs.Rules.{IsOrdered}
 use Rattle.trapeze_cli.specs.declared.status.Status.{Status}
 use Rattle.trapeze_cli.specs.declared.status.Status.TheVariants as status
-use Rattle.trapeze_cli.specs.declared.status.Input.{Input}
 use Rattle.trapeze_cli.specs.declared.status.Input.TheVariants as inputs
 use Rattle.trapeze_cli.specs.Appends.{AppendsAll, AppendsFront, AppendsLess}
-use Rattle.trapeze_cli.specs.Command.{Task, Plays, Says, Texts, answer_of, answer_of_file, texts_by, status_at, events_limit}
+use Rattle.trapeze_cli.specs.Command.{Task, Plays, Says, Texts, answer_of_file, texts_by, status_at, events_limit}
 use Rattle.trapeze_cli.specs.Ends.{IsFileOf, SaysText, SaysOrRefuses}
 use Rattle.trapeze_cli.specs.Played.{played_of}
-use Rattle.trapeze_cli.specs.Playing.{Answers, IsOfPlay, WritesOf, file_in, played_in_file, texts_of}
+use Rattle.trapeze_cli.specs.Playing.{Answers, IsOfPlay, file_in, played_in_file, texts_of}
 use Rattle.trapeze_cli.specs.Promises.{IsPrivate}
 use Rattle.trapeze_cli.specs.Runs.{Setting, text_of}
 use Rattle.trapeze_cli.specs.Steps.{IsRefused, Outcome}
-use Rattle.trapeze_cli.specs.Whys.{Why, Finished, Refused, ReadFailed, WriteFailed, OutOfMemory, why, given_of, IsAnswered, Writes}
+use Rattle.trapeze_cli.specs.Whys.{Why, Finished, Refused, ReadFailed, why, given_of, IsAnswered, Writes}
 use Rattle.trapeze_cli.proofs.Refusals.{IfSome-map, IfSome-all}
 use Rattle.trapeze_cli.proofs.Fronts.{front_none}
 use Rattle.trapeze_cli.proofs.Privacy.{private_by}

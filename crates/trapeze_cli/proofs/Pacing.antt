@@ -1,8 +1,8 @@
 -- A reader of a file within the limit, and how many events are played of it.
-use Rattle.std.proofs.Common.{◌≡◌, ℕ, ◌+◌, ◌*◌, ◌^◌, ◌<◌, ◌≤◌, List, [], ◌++◌, length, length-append, ◌∙◌, refl, sym, ap, subst, None, false, arith}
+use Rattle.std.proofs.Common.{◌≡◌, ℕ, ◌+◌, ◌^◌, ◌<◌, ◌≤◌, List, [], ◌++◌, length, length-append, ◌∙◌, refl, sym, ap, subst, None, false, arith}
 use Rattle.label_lattice.specs.Order.{Order}
 use Rattle.policy_toml.specs.Parts.{Parts, IsPolicy}
-use Rattle.event_file.specs.Known.{Known, AreNumbered}
+use Rattle.event_file.specs.Known.{AreNumbered}
 use Rattle.event_file.specs.Reader.{Reader}
 use Rattle.trapeze_host.specs.Standing.{known_in}
 use Rattle.trapeze_cli.specs.Command.{events_limit}

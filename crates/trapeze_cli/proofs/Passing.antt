@@ -1,5 +1,5 @@
 -- What a reader passes, step by step.
-use Rattle.std.proofs.Common.{◌≡◌, ℕ, ◌+◌, List, [], ◌∷◌, ◌++◌, None, Some, Result, Ok, Err, refl, sym, ap, subst, ◌∙◌, append_assoc, append-nil}
+use Rattle.std.proofs.Common.{◌≡◌, ℕ, ◌+◌, List, [], ◌∷◌, ◌++◌, None, Some, Result, Ok, refl, sym, ap, subst, ◌∙◌, append_assoc, append-nil}
 use Rattle.std.specs.declared.option.Option.{Option}
 use Rattle.std.proofs.lemmas.Grind.{flat_map-append}
 use Rattle.wasm_semantics.specs.Threads.{Thread}
@@ -8,7 +8,6 @@ use Rattle.event_file.specs.Reader.{Reader, entries_with}
 use Rattle.event_file.specs.Heard.{heard_with}
 use Rattle.event_file.specs.Calls.{Continues, Completes, Finishes, IsShort, used_up}
 use Rattle.event_file.specs.declared.entry.Entry.{Entry}
-use Rattle.event_file.specs.declared.entry.Event.{Event}
 use Rattle.event_file.specs.declared.fault.LineError.{LineError}
 use Rattle.event_file.specs.declared.next.Next.TheVariants as next
 use Rattle.event_file.proofs.Within.{empty_line}
@@ -18,7 +17,7 @@ use Rattle.host_rules.specs.Play.{trace, items_of}
 use Rattle.trapeze_cli.specs.declared.halt.Halt.{Halt}
 use Rattle.trapeze_cli.specs.Played.{AtEnd, end_at, entry_events, events_of}
 use Rattle.trapeze_cli.specs.Runs.{Setting}
-use Rattle.trapeze_cli.specs.Playing.{PlaysOn, Passes, Fails, IsDry, Drains, said_of, text_from, lines_from}
+use Rattle.trapeze_cli.specs.Playing.{PlaysOn, Passes, Fails, Drains, said_of, text_from, lines_from}
 use Rattle.trapeze_cli.proofs.Showing.{said-append}
 use Rattle.trapeze_cli.proofs.Playing.{state_after, plays_both, plays_all}
 

@@ -1,5 +1,5 @@
 -- Events that are played one after the other, and how much of their text was written.
-use Rattle.std.proofs.Common.{◌≡◌, ℕ, ◌<◌, ◌+◌, ◌-◌, List, [], ◌∷◌, ◌++◌, refl, sym, ap, subst, ◌∙◌, append-nil, Result, Ok, Err, arith}
+use Rattle.std.proofs.Common.{◌≡◌, ℕ, ◌<◌, ◌+◌, ◌-◌, List, [], ◌∷◌, ◌++◌, sym, ap, subst, ◌∙◌, append-nil, Result, Ok, Err, arith}
 use Rattle.std.specs.declared.option.Option.{Option}
 use Rattle.std.specs.Prelude.{OnOk, IsErrAnd, replicate}
 use Rattle.std.proofs.lemmas.List.{replicate-append-replicate, map-append}
@@ -10,7 +10,7 @@ use Rattle.host_rules.specs.States.{State, Happens}
 use Rattle.host_rules.specs.Play.{step, play, trace, items_of}
 use Rattle.host_rules.proofs.Agrees.{play_append}
 use Rattle.trapeze_cli.specs.declared.halt.Halt.{Halt}
-use Rattle.trapeze_cli.specs.declared.halt.Halt.TheVariants.{Write, NoMemory}
+use Rattle.trapeze_cli.specs.declared.halt.Halt.TheVariants.{NoMemory}
 use Rattle.trapeze_cli.specs.Runs.{Setting}
 use Rattle.trapeze_cli.specs.Playing.{AppendsBy, PlaysOn, said_of, text_from}
 use Rattle.trapeze_cli.proofs.Showing.{said-append, said_nothing}

@@ -1,9 +1,8 @@
 -- What is written of a play, and what each label sees of it.
-use Rattle.std.proofs.Common.{◌≡◌, ℕ, List, [], refl, ◌∙◌}
+use Rattle.std.proofs.Common.{◌≡◌, ℕ, List, []}
 use Rattle.std.specs.declared.option.Option.{Option}
 use Rattle.wasm_semantics.specs.Threads.{Thread}
-use Rattle.event_file.specs.declared.entry.Event.{Event}
-use Rattle.host_rules.specs.Rules.{Rules, IsOrdered, HasNoGates}
+use Rattle.host_rules.specs.Rules.{Rules, IsOrdered}
 use Rattle.host_rules.specs.Guests.{Guest}
 use Rattle.host_rules.specs.Laws.{SeesTheSame}
 use Rattle.host_rules.specs.States.{Item, start}

@@ -1,5 +1,5 @@
 -- What a file that gave too much says of the file held, and what follows from facts of options and results.
-use Rattle.std.proofs.Common.{◌≡◌, ◌≢◌, ℕ, refl, sym, ap, ◌∙◌, subst, Some, None, IfSome, Result, Ok, Err, arith}
+use Rattle.std.proofs.Common.{◌≡◌, ◌≢◌, ℕ, refl, sym, ap, ◌∙◌, Some, None, IfSome, Result, Ok, Err, arith}
 use Rattle.std.specs.declared.option.Option.{Option}
 use Rattle.trapeze_io.specs.Seen.{Held, OpenFile, GivesPrefix}
 use Rattle.std.specs.Io.{StartsWith}

@@ -1,5 +1,5 @@
 -- A step after an accepted step is a step over the files of both.
-use Rattle.std.proofs.Common.{◌≡◌, ℕ, ◌≤◌, List, [], ◌∷◌, ◌++◌, Some, None, IfSome, Result, Ok, Err, refl, sym, ap, subst, ◌∙◌, append_assoc, arith}
+use Rattle.std.proofs.Common.{◌≡◌, ℕ, ◌≤◌, List, [], ◌∷◌, ◌++◌, Some, None, IfSome, Result, Err, refl, sym, ap, subst, ◌∙◌, append_assoc, arith}
 use Rattle.std.specs.declared.option.Option.{Option}
 use Rattle.trapeze_io.specs.Seen.{Seen, Held, OpensAll, OpensOne}
 use Rattle.trapeze_io.specs.Causes.{Rose}
@@ -11,7 +11,7 @@ use Rattle.trapeze_cli.specs.declared.status.Input.{Input}
 use Rattle.trapeze_cli.specs.Forms.{Source}
 use Rattle.trapeze_cli.specs.Whys.{Why, Finished, Refused, ReadFailed, WriteFailed, OutOfMemory, why, IfReadFailed}
 use Rattle.trapeze_cli.specs.Opens.{names_of, IsLast, OpensTo}
-use Rattle.trapeze_cli.specs.Steps.{IsCounted, IsRefused, Ends, Steps}
+use Rattle.trapeze_cli.specs.Steps.{IsCounted, IsRefused, Ends}
 
 -- the one file of a step was opened, and the step ended the call
 pub opens_one : (source : Source) (status : Status) (old new : Seen) → OpensAll (source.name ∷ []) old new → IsLast status source.input []

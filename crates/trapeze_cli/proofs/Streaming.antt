@@ -1,5 +1,5 @@
 -- From what a reader passed to what a status says of the file.
-use Rattle.std.proofs.Common.{◌≡◌, ℕ, ◌+◌, ◌-◌, ◌<◌, ◌≤◌, List, [], ◌∷◌, ◌++◌, length, take, drop, None, Some, Result, Ok, Err, IfSome, refl, sym, ap, subst, ◌∙◌, append_assoc, append-nil, length-append, take-append-drop, arith}
+use Rattle.std.proofs.Common.{◌≡◌, ℕ, ◌-◌, ◌<◌, ◌≤◌, List, [], ◌++◌, length, take, drop, None, Some, Result, Ok, Err, IfSome, refl, sym, ap, subst, ◌∙◌, append_assoc, append-nil, length-append, take-append-drop, arith}
 use Rattle.std.specs.declared.option.Option.{Option}
 use Rattle.std.specs.Prelude.{IfOk}
 use Rattle.std.proofs.lemmas.List.{length-take, length-take-le, take-append-le}
@@ -22,11 +22,11 @@ use Rattle.trapeze_cli.specs.declared.halt.Halt.TheVariants.{Write, NoMemory}
 use Rattle.trapeze_cli.specs.declared.status.Status.TheVariants as status
 use Rattle.trapeze_cli.specs.declared.status.Input.TheVariants as input
 use Rattle.trapeze_cli.specs.Played.{End, AtEnd, AtBad, PastLimit, Played, played_of, up_to, end_at, entry_events, events_of}
-use Rattle.trapeze_cli.specs.Runs.{Setting, shown_lines, lines_to, text_of, text_before, text_heard}
+use Rattle.trapeze_cli.specs.Runs.{Setting, lines_to, text_of, text_before, text_heard}
 use Rattle.trapeze_cli.specs.Command.{events_limit, piece, status_at}
 use Rattle.trapeze_cli.specs.Appends.{AppendsAll, AppendsFront, AppendsLess}
 use Rattle.trapeze_cli.specs.Whys.{why}
-use Rattle.trapeze_cli.specs.Playing.{AppendsBy, said_of, lines_from, Passes, Fails, IsDry, Drains, Follows, file_in, played_in_file, texts_of, WritesOf, Answers, status_of}
+use Rattle.trapeze_cli.specs.Playing.{AppendsBy, said_of, lines_from, IsDry, Drains, Follows, file_in, played_in_file, texts_of, WritesOf, Answers, status_of}
 use Rattle.trapeze_cli.proofs.Showing.{said-append}
 use Rattle.trapeze_cli.proofs.Fronts.{by_after, front_after, front_wider, less_after, less_wider}
 use Rattle.trapeze_cli.proofs.Playing.{state_after, state_both, trace_both}

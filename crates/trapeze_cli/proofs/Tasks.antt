@@ -1,5 +1,5 @@
 -- Words and files say one task.
-use Rattle.std.proofs.Common.{◌≡◌, ℕ, ◌+◌, List, [], ◌∷◌, Some, None, Result, Ok, Err, inl, inr, refl, sym, ap, subst, ◌∙◌}
+use Rattle.std.proofs.Common.{◌≡◌, ℕ, ◌+◌, List, [], ◌∷◌, Some, None, Result, Ok, Err, inl, inr, sym, ap, subst, ◌∙◌}
 use Rattle.std.specs.declared.option.Option.{Option}
 use Rattle.std.specs.Prelude.{IsOk}
 use Rattle.trapeze_io.specs.Seen.{Held}
@@ -15,7 +15,7 @@ use Rattle.wasm_validate.specs.Invalids.{fault_of}
 use Rattle.wasm_validate.specs.declared.invalid.Invalid.{Invalid as InvalidFault}
 use Rattle.wasm_validate.specs.declared.invalid.Invalid.TheVariants as invalid
 use Rattle.trapeze_cli.specs.declared.status.Status.{Status}
-use Rattle.trapeze_cli.specs.declared.status.Status.TheVariants.{Usage, Module}
+use Rattle.trapeze_cli.specs.declared.status.Status.TheVariants.{Module}
 use Rattle.trapeze_cli.specs.declared.status.Input.TheVariants.{Module as module_input}
 use Rattle.trapeze_cli.specs.declared.status.ModuleFault.{ModuleFault}
 use Rattle.trapeze_cli.specs.declared.status.ModuleFault.TheVariants.{Decode, Invalid}

@@ -1,5 +1,5 @@
 -- Lines that a host gave, as they are told.
-use Rattle.std.proofs.Common.{◌≡◌, ℕ, List, [], ◌∷◌, ◌++◌, Result, Ok, Err, refl, sym, ap, subst, ◌∙◌}
+use Rattle.std.proofs.Common.{◌≡◌, ℕ, List, [], ◌∷◌, ◌++◌, Result, sym, ap, subst, ◌∙◌}
 use Rattle.std.specs.declared.option.Option.{Option}
 use Rattle.std.specs.Prelude.{All, filter}
 use Rattle.std.specs.Io.KnownBytes.{append_known}
@@ -7,7 +7,7 @@ use Rattle.std.proofs.lemmas.List.Elements.{All-nil}
 use Rattle.trapeze_io.specs.Sinks.{AppendsPart}
 use Rattle.wasm_ast.specs.declared.modules.Module.{Module}
 use Rattle.wasm_semantics.specs.Threads.{Thread}
-use Rattle.label_lattice.specs.Order.{Order, count, flows}
+use Rattle.label_lattice.specs.Order.{count, flows}
 use Rattle.policy_toml.specs.Parts.{Parts}
 use Rattle.event_file.specs.declared.entry.Event.{Event}
 use Rattle.trapeze_lines.specs.declared.line.Line.{Line}

@@ -1,8 +1,7 @@
 -- What a call does under its policy.
-use Rattle.std.proofs.Common.{◌≡◌, ℕ, ◌+◌, ◌<◌, ◌≤◌, List, [], ◌∷◌, ◌++◌, length, take, Some, None, IfSome, Result, Ok, Err, ◌⊎◌, inl, inr, refl, sym, ap, subst, ◌∙◌, append-nil, arith}
+use Rattle.std.proofs.Common.{◌≡◌, ℕ, ◌+◌, ◌<◌, List, [], ◌∷◌, ◌++◌, length, take, Some, None, IfSome, Result, Ok, Err, ◌⊎◌, inl, inr, refl, sym, ap, subst, ◌∙◌, append-nil, arith}
 use Rattle.std.specs.declared.option.Option.{Option}
-use Rattle.std.specs.Prelude.{IsOk, IfErr}
-use Rattle.trapeze_io.specs.Causes.{Rose}
+use Rattle.std.specs.Prelude.{IsOk}
 use Rattle.trapeze_io.specs.Seen.{Seen, Held, OpenFile, OpensOne, OpensAll}
 use Rattle.trapeze_io.proofs.Opens.{OpensAll-append, OpensAll-one, OpensAll-faults}
 use Rattle.label_lattice.specs.Order.{Order, count, place_of}
@@ -14,16 +13,16 @@ use Rattle.trapeze_cli.specs.declared.status.Status.{Status}
 use Rattle.trapeze_cli.specs.declared.status.Status.TheVariants as status
 use Rattle.trapeze_cli.specs.declared.status.Input.{Input}
 use Rattle.trapeze_cli.specs.declared.status.Input.TheVariants as inputs
-use Rattle.trapeze_cli.specs.Command.{AreModules, Ready, IsReady, Task, Plays, Says, IsTaskUnder, task_under, check_text, files_under, shown_in, shown_to, setting_under}
+use Rattle.trapeze_cli.specs.Command.{AreModules, IsReady, Plays, Says, IsTaskUnder, task_under, check_text, files_under, shown_in, shown_to, setting_under}
 use Rattle.trapeze_cli.specs.Ends.{IsFileOf, SaysText}
 use Rattle.trapeze_cli.specs.Forms.{Form, Check, Play, OnFiles, Show, Run, Trace, View, Source, module_sources, event_sources, sources_of, policy_name}
 use Rattle.trapeze_cli.specs.Opens.{names_of, IsLast, OpensTo, IsReachedUnder}
-use Rattle.trapeze_cli.specs.Playing.{Answers, IsOfPlay, file_in}
+use Rattle.trapeze_cli.specs.Playing.{Answers, IsOfPlay}
 use Rattle.trapeze_cli.specs.Promises.{IsRefusedCommand, ReadsAll, ReadsEvents}
 use Rattle.trapeze_cli.specs.Runs.{Setting, setting_of}
-use Rattle.trapeze_cli.specs.Steps.{IsRefused, IsCounted, Ends, IsReachedModule}
+use Rattle.trapeze_cli.specs.Steps.{IsCounted, Ends, IsReachedModule}
 use Rattle.trapeze_cli.specs.Whys.{why, IfReadFailed}
-use Rattle.trapeze_cli.proofs.Refusals.{IfSome-map, IfSome-all}
+use Rattle.trapeze_cli.proofs.Refusals.{IfSome-map}
 use Rattle.trapeze_cli.proofs.StepsInTurn.{names-append, opens_first, opens_later, last_more}
 use Rattle.trapeze_cli.proofs.Written.{setting_same, check_same}
 

@@ -1,21 +1,19 @@
 -- From a call's policy to its words.
-use Rattle.std.proofs.Common.{◌≡◌, ℕ, suc, ◌+◌, ◌^◌, ◌<◌, ◌≤◌, List, [], ◌∷◌, ◌++◌, length, length-append, Some, None, IfSome, Result, Ok, Err, ◌⊎◌, inl, inr, refl, sym, ap, subst, ◌∙◌, arith}
+use Rattle.std.proofs.Common.{◌≡◌, ℕ, suc, ◌+◌, ◌<◌, ◌≤◌, List, [], ◌∷◌, ◌++◌, length, Some, None, IfSome, Result, Ok, Err, ◌⊎◌, inl, inr, refl, sym, ap, subst, ◌∙◌, arith}
 use Rattle.std.specs.declared.option.Option.{Option}
 use Rattle.std.specs.Prelude.{IsOkAnd, slice_index_or}
 use Rattle.std.proofs.lemmas.List.{length-map}
-use Rattle.trapeze_io.specs.Causes.{Rose}
 use Rattle.trapeze_io.specs.Seen.{Seen, Held, OpenFile, OpensOne, OpensAll, AddsUp}
 use Rattle.trapeze_io.proofs.Opens.{adds_up}
-use Rattle.policy_toml.specs.Parts.{Parts, IsPolicy}
+use Rattle.policy_toml.specs.Parts.{Parts}
 use Rattle.policy_toml.specs.PolicyOf.{Written, IsAsWritten}
 use Rattle.trapeze_cli.specs.declared.status.Status.{Status}
 use Rattle.trapeze_cli.specs.declared.status.Status.TheVariants as status
 use Rattle.trapeze_cli.specs.declared.status.Input.{Input}
 use Rattle.trapeze_cli.specs.declared.status.Input.TheVariants as inputs
-use Rattle.trapeze_cli.specs.Command.{policy_in, files_under, Task, IsTaskUnder, IsTaskBy, IsTask, texts_by}
-use Rattle.trapeze_cli.specs.Appends.{AppendsFront}
+use Rattle.trapeze_cli.specs.Command.{policy_in, Task, IsTaskUnder, IsTaskBy, IsTask}
 use Rattle.trapeze_cli.specs.Forms.{Form, Check, Play, Command, OnFiles, on_files, policy_name, events_name, file_name, Source, module_sources, event_sources, sources_of}
-use Rattle.trapeze_cli.specs.Opens.{names_of, IsLast, OpensTo, files_by, files_in, AreFiles, OpensForm, Opened, opens_before, FailsToRead, IsReachedUnder, IsReached}
+use Rattle.trapeze_cli.specs.Opens.{names_of, IsLast, OpensTo, files_by, files_in, AreFiles, Opened, opens_before, FailsToRead, IsReachedUnder, IsReached}
 use Rattle.trapeze_cli.specs.Promises.{OfTask, IsPrivateIn, IsClean, ReadsEvents}
 use Rattle.trapeze_cli.specs.Steps.{IsRefused, IsCounted, Ends, ReadsPolicy, Outcome}
 use Rattle.trapeze_cli.specs.Whys.{Why, Finished, Refused, ReadFailed, WriteFailed, OutOfMemory, why, given_of, IsAnswered, Writes, IfReadFailed}

@@ -1,5 +1,5 @@
 -- A policy's parts give the rules that are written.
-use Rattle.std.proofs.Common.{◌≡◌, ℕ, Bool, List, length, map, refl, sym, ap, subst, ◌∙◌}
+use Rattle.std.proofs.Common.{◌≡◌, List, length, ap, subst, ◌∙◌}
 use Rattle.std.proofs.lemmas.List.{length-map}
 use Rattle.label_lattice.specs.Order.{count, flows}
 use Rattle.label_lattice.specs.Reach.{closes}
@@ -7,16 +7,16 @@ use Rattle.label_lattice.specs.Faults.{numbered}
 use Rattle.label_lattice.specs.Joins.{join}
 use Rattle.label_lattice.specs.Sound.{IsSound}
 use Rattle.policy_toml.specs.Parts.{Parts}
-use Rattle.policy_toml.specs.PolicyOf.{Written, IsAsWritten, limits_by_label}
+use Rattle.policy_toml.specs.PolicyOf.{Written, IsAsWritten}
 use Rattle.wasm_ast.specs.declared.modules.Module.{Module}
-use Rattle.host_rules.specs.Rules.{Rules, IsOrdered}
+use Rattle.host_rules.specs.Rules.{IsOrdered}
 use Rattle.host_rules.specs.Policies.{rules_of}
 use Rattle.host_rules.specs.Modules.{guest_of}
 use Rattle.host_rules.proofs.Ordered.{are_ordered}
 use Rattle.trapeze_host.specs.Standing.{known_in}
 use Rattle.trapeze_cli.specs.declared.shown.Shown.{Shown}
-use Rattle.trapeze_cli.specs.Command.{check_text, known_under, setting_under, files_under}
-use Rattle.trapeze_cli.specs.Runs.{Setting, rules_under, setting_of}
+use Rattle.trapeze_cli.specs.Command.{check_text, known_under, setting_under}
+use Rattle.trapeze_cli.specs.Runs.{rules_under, setting_of}
 
 module _ (w : Written) (parts : Parts) (is : IsAsWritten w parts) where
   flows_same : flows parts.lattice ≡ closes (numbered w.names w.flows)

@@ -63,7 +63,11 @@ files_under policy = map (λ f. f.1) policy.functions
 
 -- the names that the lines of an event file may use under a policy
 abbrev pub known_under : Written → Known
-known_under policy = record { labels = policy.names; clients = map (λ c. c.0) policy.clients; functions = map (λ f. f.0) policy.functions }
+known_under policy = record {
+  labels = policy.names;
+  clients = map (λ c. c.0) policy.clients;
+  functions = map (λ f. f.0) policy.functions;
+}
 
 -- lines that have to flow to a label, if it is one
 abbrev pub shown_to : Option ℕ → Result Shown Status
@@ -190,8 +194,8 @@ pub record IsAnswer (tasks : Held → Result Task Status → Type 0) (held : Hel
   pub is_task : tasks held task
   pub answered : answer ≡ answer_of held task
 
--- the texts by which what was written is told: the whole text of the answer, that of the lines heard in the bytes given of the event file, and
--- that of the lines heard in them without the last piece
+-- the texts by which what was written is told: the whole text of the answer, that of the lines heard in the bytes given of the event
+-- file, and that of the lines heard in them without the last piece
 pub record Texts : Type 0 where
   pub all : List ℕ
   pub heard : List ℕ

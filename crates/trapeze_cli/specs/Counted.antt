@@ -15,6 +15,7 @@ abbrev pub TakesIn : List Line → Counts → Counts → Type 0
 TakesIn lines old new = (before : List Line) → old ≡ counts_of before → new ≡ counts_of (before ++ lines)
 
 -- events were played from the states for which a host stood, and their lines counted
-pub record Counted (P : Rules) (M : Guest Thread) (before now : State Thread → Type 0) (events : List Event) (old new : Counts) : Type 0 where
+pub record Counted (P : Rules) (M : Guest Thread) (before now : State Thread → Type 0) (events : List Event)
+    (old new : Counts) : Type 0 where
   pub stands : (s : State Thread) → before s → now (play P M s (items_of events)).state
   pub counts : (s : State Thread) → before s → TakesIn (trace P M s (items_of events)) old new

@@ -64,8 +64,8 @@ opens_before functions policy_input = 0
 opens_before functions (module_input f) = f + 1
 opens_before functions events_input = functions + 1
 
--- an open or a read of an input failed: the count of faults rose in the call and since the last open, which was of the input's file and came
--- after those of the inputs before it
+-- an open or a read of an input failed: the count of faults rose in the call and since the last open, which was of the input's file and
+-- came after those of the inputs before it
 pub record FailsToRead (form : Option Form) (input : Input) (old new : Seen) : Type 0 where
   pub rose : Rose old.faults new.faults
   pub marked : Rose new.mark new.faults

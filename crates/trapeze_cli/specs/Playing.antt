@@ -5,7 +5,7 @@ use Rattle.trapeze_io.specs.Seen.{OpenFile, Gives}
 use Rattle.wasm_semantics.specs.Threads.{Thread}
 use Rattle.policy_toml.specs.Parts.{Parts}
 use Rattle.event_file.specs.Known.{Known}
-use Rattle.event_file.specs.Script.{Entries, after, entries_of}
+use Rattle.event_file.specs.Script.{after, entries_of}
 use Rattle.event_file.specs.Heard.{heard, heard_with}
 use Rattle.event_file.specs.Reader.{Reader, entries_with}
 use Rattle.event_file.specs.Calls.{IsShort}
@@ -14,14 +14,13 @@ use Rattle.event_file.specs.declared.entry.Event.{Event}
 use Rattle.event_file.specs.declared.fault.LineError.{LineError}
 use Rattle.trapeze_lines.specs.declared.line.Line.{Line}
 use Rattle.trapeze_lines.specs.Texts.{text}
-use Rattle.host_rules.specs.States.{State, Item, start}
+use Rattle.host_rules.specs.States.{State, Item}
 use Rattle.host_rules.specs.Play.{play, trace, whole, items_of}
 use Rattle.trapeze_host.specs.Standing.{known_in}
 use Rattle.trapeze_cli.specs.declared.halt.Halt.{Halt}
 use Rattle.trapeze_cli.specs.declared.halt.Halt.TheVariants.{Write, NoMemory as no_memory}
 use Rattle.trapeze_cli.specs.declared.status.Status.{Status}
 use Rattle.trapeze_cli.specs.declared.status.Status.TheVariants.{Done, Events, WriteFault, NoMemory, TooLong}
-use Rattle.trapeze_cli.specs.declared.status.Input.{Input}
 use Rattle.trapeze_cli.specs.declared.status.Input.TheVariants.{Policy as policy_input, Module as module_input, Events as events_input}
 use Rattle.trapeze_cli.specs.Played.{End, AtEnd, AtBad, PastLimit, Played, played_of, events_of}
 use Rattle.trapeze_cli.specs.Runs.{Setting, shown_lines, text_of, text_heard}
@@ -49,7 +48,8 @@ abbrev pub text_from : Setting → State Thread → List Item → List ℕ
 text_from g s items = said_of g (trace g.rules g.guest s items)
 
 -- the events were played from the states for which a host stood, and their lines written; or, where the step halted, a front of their text
-pub record PlaysOn {A : Type 0} (g : Setting) (before now : State Thread → Type 0) (events : List Event) (result : Result A Halt) (old new : Option (List ℕ)) : Type 0 where
+pub record PlaysOn {A : Type 0} (g : Setting) (before now : State Thread → Type 0) (events : List Event)
+    (result : Result A Halt) (old new : Option (List ℕ)) : Type 0 where
   pub state : OnOk result ((s : State Thread) → before s → now (play g.rules g.guest s (items_of events)).state)
   pub lines : (s : State Thread) → before s → AppendsBy result (text_from g s (items_of events)) old new
 
@@ -103,7 +103,8 @@ Drains old new entries (Ok (Some bad)) = Fails old entries bad
 Drains old new entries (Err halt) = Passes old new entries
 
 -- lines were drained, and their events played
-pub record PlaysLines (g : Setting) (before now : State Thread → Type 0) (old new : Reader) (result : Result (Option LineError) Halt) (out out_now : Option (List ℕ)) : Type 0 where
+pub record PlaysLines (g : Setting) (before now : State Thread → Type 0) (old new : Reader)
+    (result : Result (Option LineError) Halt) (out out_now : Option (List ℕ)) : Type 0 where
   pub entries : List Entry
   pub drains : Drains old new entries result
   pub plays : PlaysOn g before now (events_of entries) result out out_now
@@ -131,8 +132,8 @@ texts_of g r = record {
   before = text_heard g (take (length r.given - piece) r.given);
 }
 
--- what a status says of a file that was read so far: how its playing ends, or that no bad line is heard in the bytes given and they are not too
--- many
+-- what a status says of a file that was read so far: how its playing ends, or that no bad line is heard in the bytes given and they are
+-- not too many
 abbrev pub Tells : Setting → OpenFile → Status → Why → Type 0
 Tells g r status Finished = status ≡ status_at (played_in_file g r).end
 Tells g r status Refused = ⊥

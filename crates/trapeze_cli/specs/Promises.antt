@@ -1,11 +1,10 @@
 -- What the top call promises of its answers.
-use Rattle.std.specs.Prelude.{◌≡◌, ◌≢◌, ◌⊎◌, ℕ, ◌<◌, ◌≤◌, ⊤, List, [], length, IfSome, Option, Some, None, Result, Ok, Err}
+use Rattle.std.specs.Prelude.{◌≡◌, ◌≢◌, ◌⊎◌, ℕ, ◌≤◌, ⊤, List, [], length, IfSome, Option, Some, None, Result, Ok}
 use Rattle.trapeze_io.specs.Seen.{Held, OpenFile}
 use Rattle.label_lattice.specs.declared.error.LatticeError.TheVariants.{NoMemory as lattice_no_memory}
 use Rattle.policy_toml.specs.declared.error.PolicyError.TheVariants.{Lattice, NoMemory as no_memory}
 use Rattle.wasm_code.specs.declared.error.DecodeError.TheVariants.{NoMemory as decode_no_memory}
 use Rattle.wasm_validate.specs.declared.invalid.Invalid.TheVariants.{NoMemory as invalid_no_memory}
-use Rattle.event_file.specs.declared.entry.Event.{Event}
 use Rattle.event_file.specs.Heard.{heard}
 use Rattle.trapeze_lines.specs.declared.line.Line.{Line}
 use Rattle.trapeze_lines.specs.Texts.{text}
@@ -26,9 +25,9 @@ use Rattle.trapeze_cli.specs.Appends.{AppendsAll}
 abbrev pub shown_of : Setting → End → List Item → List Line
 shown_of g end items = shown_lines g.rules g.shown (lines_to end g.rules g.guest items)
 
--- noninterference of a call: what was appended is the text of some lines of which, for each o, those that flow to o are exactly those that the
--- rules give for the view of o, which is the events that flow to o and, in place of each other one, its releases into o; and, where the policy has no
--- gate, for the events that flow to o alone. A number that is no label's flows to itself alone
+-- noninterference of a call: what was appended is the text of some lines of which, for each o, those that flow to o are exactly those
+-- that the rules give for the view of o, which is the events that flow to o and, in place of each other one, its releases into o; and,
+-- where the policy has no gate, for the events that flow to o alone. A number that is no label's flows to itself alone
 pub record IsPrivate (g : Setting) (played : Played) (status : Status) (old new : Option (List ℕ)) : Type 0 where
   pub ended : status ≡ status_at played.end
   pub lines : List Line

@@ -25,7 +25,8 @@ use Rattle.trapeze_cli.specs.declared.shown.Shown.{Shown}
 use Rattle.trapeze_cli.specs.declared.shown.Shown.TheVariants.{RunKinds, AllKinds, VisibleTo}
 use Rattle.trapeze_cli.specs.Played.{End, AtEnd, AtBad, PastLimit, Played, events_of}
 
--- what events are played on: the names that they may use, the rules of the policy, the guest of its functions' modules; and which lines are shown
+-- what events are played on: the names that they may use, the rules of the policy, the guest of its functions' modules; and which lines
+-- are shown
 pub record Setting : Type 0 where
   pub known : Known
   pub rules : Rules

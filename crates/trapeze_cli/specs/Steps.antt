@@ -6,7 +6,7 @@ use Rattle.wasm_ast.specs.declared.modules.Module.{Module as Program}
 use Rattle.policy_toml.specs.Parts.{Parts}
 use Rattle.policy_toml.specs.PolicyOf.{Written, IsAsWritten}
 use Rattle.trapeze_cli.specs.declared.status.Status.{Status}
-use Rattle.trapeze_cli.specs.declared.status.Status.TheVariants.{Done, ReadFault}
+use Rattle.trapeze_cli.specs.declared.status.Status.TheVariants.{ReadFault}
 use Rattle.trapeze_cli.specs.declared.status.Input.{Input}
 use Rattle.trapeze_cli.specs.declared.status.Input.TheVariants.{Module as module_input, Events as events_input}
 use Rattle.trapeze_cli.specs.Forms.{Source}
@@ -29,7 +29,8 @@ IsRefused step old new status WriteFailed = ⊥
 IsRefused step old new status OutOfMemory = ⊤
 
 -- a step over these files ended the call with a status: they were opened up to the one that the status is of
-pub record Ends {X : Type 0} (sources : List Source) (step : Held → Result X Status → Type 0) (status : Status) (old new : Seen) : Type 0 where
+pub record Ends {X : Type 0} (sources : List Source) (step : Held → Result X Status → Type 0)
+    (status : Status) (old new : Seen) : Type 0 where
   pub opens : OpensTo sources status old new
   pub refused : IsRefused step old new status (why status)
 
@@ -53,7 +54,8 @@ pub record IsReachedModule (held : Held) (files : List (List ℕ)) (input : Inpu
   pub before : AreModules held 0 (take function files) (Ok programs)
 
 -- how a call ends by its tasks: what it answered, what was written, that it is private, and that no bad line was heard where a read failed
-pub record Outcome (tasks : Held → Result Task Status → Type 0) (held : Option Held) (current : Option OpenFile) (status : Status) (old new : Option (List ℕ)) : Type 0 where
+pub record Outcome (tasks : Held → Result Task Status → Type 0) (held : Option Held)
+    (current : Option OpenFile) (status : Status) (old new : Option (List ℕ)) : Type 0 where
   pub answered : IsAnswered tasks held (why status) status
   pub written : Writes tasks held (given_of current) (why status) old new
   pub private : why status ≡ Finished → IfSome held (λ h. OfTask tasks h (λ task. IsPrivateIn h task status old new))

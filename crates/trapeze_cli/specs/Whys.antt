@@ -1,5 +1,5 @@
 -- Why a call ends with a status, and what it has answered and written when it ends: one row for each reason.
-use Rattle.std.specs.Prelude.{◌≡◌, ⊤, ℕ, List, [], Option, Some, None, IfSome, Result, Ok, Err}
+use Rattle.std.specs.Prelude.{◌≡◌, ⊤, ℕ, List, [], Option, Some, None, IfSome, Result}
 use Rattle.trapeze_io.specs.Seen.{Held, OpenFile}
 use Rattle.trapeze_cli.specs.declared.status.Status.{Status}
 use Rattle.trapeze_cli.specs.declared.status.Status.TheVariants.{Done, Usage, Policy, Module, Events, ReadFault, WriteFault, NoMemory, TooLong}
@@ -8,8 +8,8 @@ use Rattle.trapeze_cli.specs.declared.status.Input.TheVariants.{Policy as policy
 use Rattle.trapeze_cli.specs.Command.{Task, Answer, IsAnswer, Texts, texts_by}
 use Rattle.trapeze_cli.specs.Appends.{AppendsAll, AppendsFront, AppendsLess}
 
--- the task was done, for a file of events up to its end, to a bad line or past its limit; the words or another file were refused; a read or a
--- write failed; or the call is out of memory
+-- the task was done, for a file of events up to its end, to a bad line or past its limit; the words or another file were refused; a read
+-- or a write failed; or the call is out of memory
 pub data Why : Type 0 where
   Finished : Why
   Refused : Why
@@ -51,8 +51,9 @@ given_of (Some file) = file.given
 abbrev pub OfTexts : (Held → Result Task Status → Type 0) → Option Held → List ℕ → (Texts → Type 0) → Type 0
 OfTexts tasks held given P = IfSome held (λ h. (task : Result Task Status) × tasks h task × P (texts_by h task given))
 
--- what was written, where these were given of the open file: the whole text of the answer; nothing; the text of the lines heard in the bytes
--- given of the event file; a front of the whole text that is not all and holds the text of the lines heard but for the last piece; a front
+-- what was written, where these were given of the open file: the whole text of the answer; nothing; the text of the lines heard in the
+-- bytes given of the event file; a front of the whole text that is not all and holds the text of the lines heard but for the last piece;
+-- a front
 abbrev pub Writes : (Held → Result Task Status → Type 0) → Option Held → List ℕ → Why → Option (List ℕ) → Option (List ℕ) → Type 0
 Writes tasks held given Finished old new = OfTexts tasks held given (λ t. AppendsAll t.all old new)
 Writes tasks held given Refused old new = new ≡ old

@@ -1,8 +1,4 @@
-use Rattle.std.proofs.Common.{◌≡◌, ◌∙◌, ap, sym, subst, refl}
-use Rattle.host_rules.specs.States.{start}
-use Rattle.trapeze_host.specs.Standing.{modules_in}
-use Rattle.trapeze_cli.specs.Runs.{setting_of}
-use Rattle.trapeze_cli.proofs.Ending.{answers_unopened, answers_none, file_unopened, file_since, gives_none, opens_reads, counted_read}
+use Rattle.trapeze_cli.proofs.Ending.{answers_unopened, answers_none, file_unopened, file_since, gives_none}
 use Rattle.trapeze_cli.proofs.command.play_file.Goals as goal
 
 pub returns-in_default-clause-answers : goal.returns-in_default-clause-answers

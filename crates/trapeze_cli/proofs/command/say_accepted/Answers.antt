@@ -1,4 +1,4 @@
-use Rattle.std.proofs.Common.{◌≡◌, ◌∙◌, ap, decimal, length}
+use Rattle.std.proofs.Common.{◌∙◌, ap, decimal, length}
 use Rattle.label_lattice.specs.Order.{Order, count}
 use Rattle.trapeze_cli.proofs.Accepted.{accepted_all, accepted_less}
 use Rattle.trapeze_cli.proofs.command.say_accepted.Goals as goal

@@ -1,4 +1,4 @@
-use Rattle.std.proofs.Common.{◌≡◌, ◌∙◌, ap, sym, subst, refl, Ok, Err, inl, inr, [], ◌∷◌, map, string_bytes, arith, length}
+use Rattle.std.proofs.Common.{subst, inr, [], ◌∷◌, map, string_bytes, arith}
 use Rattle.trapeze_io.specs.Seen.{OpensOne}
 use Rattle.trapeze_cli.specs.Forms.{command_of}
 use Rattle.trapeze_cli.specs.Said.{said}

@@ -1,9 +1,8 @@
-use Rattle.std.proofs.Common.{◌≡◌, ◌∙◌, ap, sym, subst, refl, Ok, Err, inl, inr, length}
+use Rattle.std.proofs.Common.{◌≡◌, ◌∙◌, ap, sym, subst, refl}
 use Rattle.std.specs.Prelude.{IsSome}
 use Rattle.std.specs.declared.option.Option.{Option}
-use Rattle.trapeze_io.specs.Seen.{Held, OpensAll}
+use Rattle.trapeze_io.specs.Seen.{Held}
 use Rattle.trapeze_io.proofs.Opens.{OpensAll-held}
-use Rattle.label_lattice.specs.Order.{Order, count}
 use Rattle.label_lattice.specs.Sound.{IsSound}
 use Rattle.trapeze_cli.specs.Command.{AreModules, IsTaskUnder, setting_under}
 use Rattle.trapeze_cli.specs.Forms.{module_sources}
@@ -13,9 +12,9 @@ use Rattle.trapeze_cli.specs.Said.{said, said_show}
 use Rattle.trapeze_cli.specs.Whys.{why}
 use Rattle.trapeze_cli.proofs.Refusals.{IfSome-map, IfSome-all}
 use Rattle.trapeze_cli.proofs.Tasks.{one_task_under}
-use Rattle.trapeze_cli.proofs.Written.{ordered, check_same}
+use Rattle.trapeze_cli.proofs.Written.{ordered}
 use Rattle.trapeze_cli.proofs.Outcomes.{refused_as, outcome_refused, outcome_said, outcome_played}
-use Rattle.trapeze_cli.proofs.Under.{usage_only, names_label, shown_told, unshown_task, unread_task, check_task, play_task, reached_events, counted_later, opens_policy, opens_modules, opens_check, said_ends, opens_play, no_events, no_usage, reads_all, read_events, answers_under, file_later}
+use Rattle.trapeze_cli.proofs.Under.{usage_only, shown_told, unshown_task, unread_task, check_task, play_task, reached_events, counted_later, opens_policy, opens_modules, opens_check, said_ends, opens_play, no_events, no_usage, reads_all, read_events, answers_under, file_later}
 use Rattle.trapeze_cli.proofs.command.under_policy.Goals as goal
 
 pub returns-in-Err-clause-outcome : goal.returns-in-Err-clause-outcome

@@ -1,4 +1,4 @@
-use Rattle.trapeze_cli.proofs.Modules.{unread_ends, judged_steps, judged_ok}
+use Rattle.trapeze_cli.proofs.Modules.{judged_steps, judged_ok}
 use Rattle.trapeze_cli.proofs.inputs.read_module.Goals as goal
 
 pub returns-clause-steps : goal.returns-clause-steps

@@ -1,6 +1,4 @@
-use Rattle.std.proofs.Common.{◌∙◌}
 use Rattle.trapeze_host.specs.Standing.{policy_in, modules_in, Stands}
-use Rattle.trapeze_cli.specs.Runs.{setting_of}
 use Rattle.trapeze_cli.proofs.Playing.{err_is, plays_nothing}
 use Rattle.trapeze_cli.proofs.Telling.{event_played, all_labelled}
 use Rattle.trapeze_cli.proofs.play.play_event.Goals as goal

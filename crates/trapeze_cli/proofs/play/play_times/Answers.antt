@@ -1,5 +1,5 @@
 use Rattle.std.proofs.Common.{◌∙◌, arith}
-use Rattle.trapeze_cli.proofs.Playing.{err_is, times_more, times_halt, plays_none}
+use Rattle.trapeze_cli.proofs.Playing.{err_is, times_more, times_halt}
 use Rattle.trapeze_cli.proofs.play.play_times.Goals as goal
 
 pub returns-in_err-play_event-clause-plays : goal.returns-in_err-play_event-clause-plays

@@ -1,5 +1,4 @@
-use Rattle.std.proofs.Common.{Err}
-use Rattle.trapeze_host.specs.Standing.{policy_in, modules_in}
+use Rattle.trapeze_host.specs.Standing.{modules_in}
 use Rattle.trapeze_cli.proofs.Playing.{err_is}
 use Rattle.trapeze_cli.proofs.Fronts.{front_none}
 use Rattle.trapeze_cli.proofs.Telling.{facets_told, all_labelled}

@@ -1,4 +1,4 @@
-use Rattle.std.proofs.Common.{◌≡◌, ◌∙◌, ap, Err, Ok, Some, None, refl}
+use Rattle.std.proofs.Common.{◌∙◌, ap, Err, Ok}
 use Rattle.event_file.specs.Reader.{Reader}
 use Rattle.trapeze_host.specs.Standing.{modules_in}
 use Rattle.trapeze_cli.specs.Played.{entry_events}

@@ -1,4 +1,4 @@
-use Rattle.std.proofs.Common.{◌≤◌, ◌++◌, ◌∷◌, [], ap, ◌∙◌, arith, Ok, Err, Some, None, refl}
+use Rattle.std.proofs.Common.{◌++◌, ◌∷◌, [], ap, ◌∙◌, arith, refl}
 use Rattle.event_file.specs.Reader.{Reader}
 use Rattle.trapeze_cli.proofs.Playing.{err_is, plays_none, plays_halt, plays_no_more, plays_all}
 use Rattle.trapeze_cli.proofs.Passing.{passes_none, passes_entry, passes_dry, passes_waiting, passes_bad, plays_entry, stays_of}

@@ -1,7 +1,6 @@
-use Rattle.std.proofs.Common.{◌≡◌, ◌≤◌, ◌-◌, ℕ, [], Ok, length, List}
+use Rattle.std.proofs.Common.{◌≡◌, ◌≤◌, ◌-◌, ℕ, Ok, length, List}
 use Rattle.trapeze_io.specs.Seen.{OpensNone, Gives}
 use Rattle.event_file.specs.declared.entry.Entry.{Entry}
-use Rattle.host_rules.specs.States.{start}
 use Rattle.trapeze_host.specs.Standing.{policy_in, modules_in, is_spent, played_in, known_in, Stands}
 use Rattle.trapeze_cli.specs.Played.{events_of}
 use Rattle.trapeze_cli.specs.Runs.{setting_of}
