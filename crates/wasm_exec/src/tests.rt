@@ -1,0 +1,323 @@
+//! Functions that run from their beginning to their end, with ample memory.
+
+ghost use Rattle.std.specs.Prelude.{◌≡◌, is_some, OnOk};
+ghost use Rattle.wasm_exec.specs.Asking.{has_answer};
+ghost use Rattle.wasm_exec.specs.Machines.{IsReady};
+
+mod modules;
+mod programs;
+
+use super::*;
+use modules::{SECOND, body, module};
+use programs::{Worked, calling, code_of, counting, mixed, spinning, trapping, wants};
+use std::alloc::Global;
+use std::process::Abort;
+use std::test::Fail;
+use wasm_ast::{HostName, Instr};
+use wasm_validate::ValidModule;
+
+/// How a thread ended.
+#[derive(Clone, Copy, Debug, PartialEq, Eq)]
+enum End {
+    Done,
+    Trapped(Trap),
+    NoMemory,
+}
+
+/// What came of a thread: the units that it used, what it asked, how it ended, and the first bytes of its memory then.
+#[derive(Debug, Drop, PartialEq)]
+struct Told {
+    used: u64,
+    asks: Vec<(HostName, [u32; 4])>,
+    end: End,
+    memory: [u8; 6],
+}
+
+/// The host answers 3 where it has to.
+fn answer_to(name: HostName) -> Option<u32>
+    ensures { is_some result ≡ has_answer name }
+{
+    match name {
+        HostName::Input
+        | HostName::Read
+        | HostName::Write
+        | HostName::Delete
+        | HostName::OwnLabel => Some(3),
+        HostName::Send | HostName::Raise | HostName::Reply | HostName::Release => None,
+    }
+}
+
+/// One run, and the answer of what it asked.
+fn turn(
+    module: &ValidModule,
+    machine: &mut Machine,
+    pages: u32,
+    units: u64,
+) -> Result<(u64, Option<Asked>), (u64, End)>
+    requires { IsReady module.now machine.old }
+    ensures { OnOk result (IsReady module.now machine.new) }
+{
+    let ran = machine.run(module, pages, units);
+    match ran.stop {
+        Stop::Spent => Ok((ran.used, None)),
+        Stop::Call(asked) => {
+            machine.resume(answer_to(asked.name));
+            Ok((ran.used, Some(asked)))
+        }
+        Stop::Done => Err((ran.used, End::Done)),
+        Stop::Trapped(trap) => Err((ran.used, End::Trapped(trap))),
+        Stop::NoMemory => Err((ran.used, End::NoMemory)),
+    }
+}
+
+/// A thread from its beginning to its end, given so many units first, and so many each time after that.
+fn played(
+    rt: &impl Abort,
+    alloc: Global,
+    module: &ValidModule,
+    pages: u32,
+    first: u64,
+    each: u64,
+) -> Result<Told, Fail> {
+    let mut machine = Machine::begin(alloc, module)?;
+    let mut asks = Vec::new(alloc);
+    let mut used = 0_u64;
+    let mut units = first;
+    'runs: for _ in 0..5_000 {
+        match turn(module, &mut machine, pages, units) {
+            Ok((more, asked)) => {
+                used = used.wrapping_add(more);
+                units = each;
+                if let Some(asked) = asked {
+                    let args = asked.args;
+                    asks.push((asked.name, args))?;
+                }
+            }
+            Err((more, end)) => {
+                let mut memory = [0; 6];
+                let _ = machine.memory().copy_out(0, &mut memory);
+                return Ok(Told {
+                    used: used.wrapping_add(more),
+                    asks,
+                    end,
+                    memory,
+                });
+            }
+        }
+    }
+    panic!(rt; "no end")
+}
+
+/// A module whose second function does nothing; `handle` has one local.
+fn alone(rt: &impl Abort, alloc: Global, code: Vec<Instr>) -> Result<ValidModule, Fail> {
+    let handle = body(alloc, 1, code)?;
+    let second = body(alloc, 0, Vec::new(alloc))?;
+    module(rt, alloc, handle, second, None)
+}
+
+/// A module whose second function counts in the global.
+fn counted(rt: &impl Abort, alloc: Global) -> Result<ValidModule, Fail> {
+    let handle = body(alloc, 1, mixed(alloc)?)?;
+    let second = body(alloc, 0, counting(alloc)?)?;
+    module(rt, alloc, handle, second, None)
+}
+
+/// A module whose second function, with so many locals, calls itself without end.
+fn sinking(
+    rt: &impl Abort,
+    alloc: Global,
+    code: Vec<Instr>,
+    locals: usize,
+) -> Result<ValidModule, Fail> {
+    let handle = body(alloc, 0, code)?;
+    let second = body(alloc, locals, calling(alloc)?)?;
+    module(rt, alloc, handle, second, None)
+}
+
+#[test]
+fn the_worked_functions_ask_the_host(rt: HostRuntime) -> Result<(), Fail> {
+    let reply = (HostName::Reply, [16, 3, 0, 0]);
+    let sent = (HostName::Send, [0, 4, 16, 3]);
+    let cases = [
+        (Worked::Echo, 6, 2, (HostName::Reply, [0, 3, 0, 0])),
+        (Worked::Lift, 9, 3, reply),
+        (Worked::Look, 8, 2, reply),
+        (Worked::Store, 9, 2, (HostName::Write, [0, 1, 16, 3])),
+        (Worked::Twin, 15, 3, sent),
+    ];
+    for (which, used, asks, last) in cases {
+        let program = alone(&rt, rt.alloc(), code_of(rt.alloc(), which)?)?;
+        let told = played(&rt, rt.alloc(), &program, 1, 1_000, 1_000)?;
+        assert_eq!(rt; (told.used, told.end), (used, End::Done), "{which:?}");
+        assert_eq!(rt; told.asks.len(), asks, "{which:?}");
+        assert!(rt; told.asks.last() == Some(&last), "{which:?}");
+    }
+    Ok(())
+}
+
+#[test]
+fn a_program_told_in_full(rt: HostRuntime) -> Result<(), Fail> {
+    let program = counted(&rt, rt.alloc())?;
+    let told = played(&rt, rt.alloc(), &program, 1, 1_000, 1_000)?;
+    assert_eq!(rt; (told.used, told.end), (54, End::Done));
+    assert!(rt; told.asks.as_slice() == [(HostName::Input, [0, 8, 0, 0])].as_slice());
+    assert_eq!(rt; told.memory, *b"\x09\0\0\0ef");
+    Ok(())
+}
+
+#[test]
+fn a_run_that_is_cut_anywhere_ends_the_same(rt: HostRuntime) -> Result<(), Fail> {
+    let program = counted(&rt, rt.alloc())?;
+    let whole = played(&rt, rt.alloc(), &program, 1, 1_000, 1_000)?;
+    for cut in 0..whole.used {
+        let parts = played(&rt, rt.alloc(), &program, 1, cut, 1_000)?;
+        assert!(rt; parts == whole, "cut at {cut}");
+    }
+    for each in 1..6 {
+        let parts = played(&rt, rt.alloc(), &program, 1, each, each)?;
+        assert!(rt; parts == whole, "{each} units a run");
+    }
+    Ok(())
+}
+
+#[test]
+fn an_endless_loop_uses_all_its_units(rt: HostRuntime) -> Result<(), Fail> {
+    let program = alone(&rt, rt.alloc(), spinning(rt.alloc())?)?;
+    let mut machine = Machine::begin(rt.alloc(), &program)?;
+    for units in [3, 4, 0, 1_000] {
+        let Ok((used, None)) = turn(&program, &mut machine, 0, units) else {
+            panic!(rt; "it ended");
+        };
+        assert_eq!(rt; used, units);
+    }
+    Ok(())
+}
+
+#[test]
+fn each_trap(rt: HostRuntime) -> Result<(), Fail> {
+    let traps = [
+        Trap::Unreachable,
+        Trap::Memory,
+        Trap::Divide,
+        Trap::Overflow,
+        Trap::Table,
+        Trap::Empty,
+        Trap::TypeDiffers,
+    ];
+    for trap in traps {
+        let program = alone(&rt, rt.alloc(), trapping(rt.alloc(), trap)?)?;
+        let told = played(&rt, rt.alloc(), &program, 1, 1_000, 1_000)?;
+        assert_eq!(rt; (told.used, told.end), (3, End::Trapped(trap)));
+    }
+    Ok(())
+}
+
+/// The units until the limit of frames or of values is passed.
+fn sunk(rt: &impl Abort, alloc: Global, code: Vec<Instr>, locals: usize) -> Result<u64, Fail> {
+    let program = sinking(rt, alloc, code, locals)?;
+    let told = played(rt, alloc, &program, 1, 100_000, 100_000)?;
+    assert_eq!(rt; told.end, End::Trapped(Trap::Stack));
+    Ok(told.used)
+}
+
+#[test]
+fn the_first_frame_too_many(rt: HostRuntime) -> Result<(), Fail> {
+    assert_eq!(rt; sunk(&rt, rt.alloc(), calling(rt.alloc())?, 0)?, 1_024);
+    Ok(())
+}
+
+#[test]
+fn the_first_value_too_many(rt: HostRuntime) -> Result<(), Fail> {
+    assert_eq!(rt; sunk(&rt, rt.alloc(), calling(rt.alloc())?, 1_024)?, 65);
+    let code = vec![in rt.alloc(); Instr::I32Const(0), Instr::Call(SECOND), Instr::Drop]?;
+    assert_eq!(rt; sunk(&rt, rt.alloc(), code, 1_024)?, 65);
+    Ok(())
+}
+
+/// Whether a memory of one page does not grow by so many pages where it may have this many.
+fn stays(rt: &impl Abort, alloc: Global, by: u32, pages: u32) -> Result<bool, Fail> {
+    let mut code = vec![in alloc; Instr::I32Const(by), Instr::MemoryGrow]?;
+    wants(alloc, &mut code, u32::MAX)?;
+    let program = alone(rt, alloc, code)?;
+    let told = played(rt, alloc, &program, pages, 1_000, 1_000)?;
+    Ok(told.used == 7 && told.end == End::Done)
+}
+
+#[test]
+fn a_memory_grows_to_the_pages_given_and_to_its_maximum(rt: HostRuntime) -> Result<(), Fail> {
+    let cases = [
+        (1, 1, true),
+        (1, 2, false),
+        (2, 2, true),
+        (2, 3, false),
+        (3, 9, true),
+    ];
+    for (by, pages, refused) in cases {
+        assert_eq!(rt;
+            stays(&rt, rt.alloc(), by, pages)?,
+            refused,
+            "by {by} of {pages}"
+        );
+    }
+    Ok(())
+}
+
+/// The first bytes of a memory that begins with `abcdef`, once four of them are copied.
+fn copied(rt: &impl Abort, alloc: Global, to: u32, from: u32) -> Result<[u8; 6], Fail> {
+    let code = vec![in alloc;
+        Instr::I32Const(to),
+        Instr::I32Const(from),
+        Instr::I32Const(4),
+        Instr::MemoryCopy,
+    ]?;
+    let program = alone(rt, alloc, code)?;
+    let told = played(rt, alloc, &program, 1, 1_000, 1_000)?;
+    let memory = told.memory;
+    Ok(memory)
+}
+
+#[test]
+fn ranges_that_overlap_are_copied_whole(rt: HostRuntime) -> Result<(), Fail> {
+    assert_eq!(rt; copied(&rt, rt.alloc(), 2, 0)?, *b"ababcd");
+    assert_eq!(rt; copied(&rt, rt.alloc(), 0, 2)?, *b"cdefef");
+    Ok(())
+}
+
+/// A module whose start function puts a 7 where `handle` wants it.
+fn started(rt: &impl Abort, alloc: Global) -> Result<ValidModule, Fail> {
+    let mut code = vec![in alloc; Instr::I32Const(0), Instr::Load(0x2D, 0, 0)]?;
+    wants(alloc, &mut code, 7)?;
+    let first = vec![in alloc;
+        Instr::I32Const(0),
+        Instr::I32Const(7),
+        Instr::Store(0x3A, 0, 0),
+    ]?;
+    let handle = body(alloc, 1, code)?;
+    let second = body(alloc, 2, first)?;
+    module(rt, alloc, handle, second, Some(SECOND))
+}
+
+#[test]
+fn a_start_function_runs_before_handle(rt: HostRuntime) -> Result<(), Fail> {
+    let program = started(&rt, rt.alloc())?;
+    let told = played(&rt, rt.alloc(), &program, 1, 4, 1_000)?;
+    assert_eq!(rt; (told.used, told.end), (11, End::Done));
+    assert_eq!(rt; told.memory, *b"\x07bcdef");
+    Ok(())
+}
+
+#[test]
+fn an_import_is_called_through_the_table(rt: HostRuntime) -> Result<(), Fail> {
+    let code = vec![in rt.alloc();
+        Instr::I32Const(0),
+        Instr::I32Const(8),
+        Instr::I32Const(0),
+        Instr::CallIndirect(1),
+        Instr::Drop,
+    ]?;
+    let program = alone(&rt, rt.alloc(), code)?;
+    let told = played(&rt, rt.alloc(), &program, 1, 1_000, 1_000)?;
+    assert_eq!(rt; (told.used, told.end), (6, End::Done));
+    assert!(rt; told.asks.as_slice() == [(HostName::Input, [0, 8, 0, 0])].as_slice());
+    Ok(())
+}
