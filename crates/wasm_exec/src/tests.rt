@@ -9,7 +9,10 @@ mod programs;
 
 use super::*;
 use modules::{SECOND, body, module};
-use programs::{Worked, calling, code_of, counting, mixed, spinning, trapping, wants};
+use programs::{
+    Worked, branching, calling, code_of, counting, growing, mixed, nested, sinking, spinning,
+    trapping, wants,
+};
 use std::alloc::Global;
 use std::process::Abort;
 use std::test::Fail;
@@ -122,18 +125,6 @@ fn counted(rt: &impl Abort, alloc: Global) -> Result<ValidModule, Fail> {
     module(rt, alloc, handle, second, None)
 }
 
-/// A module whose second function, with so many locals, calls itself without end.
-fn sinking(
-    rt: &impl Abort,
-    alloc: Global,
-    code: Vec<Instr>,
-    locals: usize,
-) -> Result<ValidModule, Fail> {
-    let handle = body(alloc, 0, code)?;
-    let second = body(alloc, locals, calling(alloc)?)?;
-    module(rt, alloc, handle, second, None)
-}
-
 #[test]
 fn the_worked_functions_ask_the_host(rt: HostRuntime) -> Result<(), Fail> {
     let reply = (HostName::Reply, [16, 3, 0, 0]);
@@ -212,52 +203,97 @@ fn each_trap(rt: HostRuntime) -> Result<(), Fail> {
     Ok(())
 }
 
-/// The units until the limit of frames or of values is passed.
-fn sunk(rt: &impl Abort, alloc: Global, code: Vec<Instr>, locals: usize) -> Result<u64, Fail> {
-    let program = sinking(rt, alloc, code, locals)?;
+/// How a module ends whose second function has so many locals and this code, and the units until then.
+fn sunk(
+    rt: &impl Abort,
+    alloc: Global,
+    handle: Vec<Instr>,
+    locals: usize,
+    second: Vec<Instr>,
+) -> Result<(u64, End), Fail> {
+    let first = body(alloc, 0, handle)?;
+    let second = body(alloc, locals, second)?;
+    let program = module(rt, alloc, first, second, None)?;
     let told = played(rt, alloc, &program, 1, 100_000, 100_000)?;
-    assert_eq!(rt; told.end, End::Trapped(Trap::Stack));
-    Ok(told.used)
+    Ok((told.used, told.end))
 }
 
 #[test]
 fn the_first_frame_too_many(rt: HostRuntime) -> Result<(), Fail> {
-    assert_eq!(rt; sunk(&rt, rt.alloc(), calling(rt.alloc())?, 0)?, 1_024);
+    let alloc = rt.alloc();
+    let told = sunk(&rt, alloc, calling(alloc)?, 0, calling(alloc)?)?;
+    assert_eq!(rt; told, (1_024, End::Trapped(Trap::Stack)));
     Ok(())
 }
 
 #[test]
 fn the_first_value_too_many(rt: HostRuntime) -> Result<(), Fail> {
-    assert_eq!(rt; sunk(&rt, rt.alloc(), calling(rt.alloc())?, 1_024)?, 65);
-    let code = vec![in rt.alloc(); Instr::I32Const(0), Instr::Call(SECOND), Instr::Drop]?;
-    assert_eq!(rt; sunk(&rt, rt.alloc(), code, 1_024)?, 65);
+    let alloc = rt.alloc();
+    let told = sunk(&rt, alloc, calling(alloc)?, 1_024, calling(alloc)?)?;
+    assert_eq!(rt; told, (65, End::Trapped(Trap::Stack)));
+    let code = vec![in alloc; Instr::I32Const(0), Instr::Call(SECOND), Instr::Drop]?;
+    let told = sunk(&rt, alloc, code, 1_024, calling(alloc)?)?;
+    assert_eq!(rt; told, (65, End::Trapped(Trap::Stack)));
     Ok(())
 }
 
-/// Whether a memory of one page does not grow by so many pages where it may have this many.
-fn stays(rt: &impl Abort, alloc: Global, by: u32, pages: u32) -> Result<bool, Fail> {
-    let mut code = vec![in alloc; Instr::I32Const(by), Instr::MemoryGrow]?;
-    wants(alloc, &mut code, u32::MAX)?;
+#[test]
+fn the_first_block_too_many(rt: HostRuntime) -> Result<(), Fail> {
+    let alloc = rt.alloc();
+    let told = sunk(&rt, alloc, calling(alloc)?, 0, nested(alloc, 64)?)?;
+    assert_eq!(rt; told, (16_642, End::Trapped(Trap::Stack)));
+    Ok(())
+}
+
+#[test]
+fn a_trap_of_the_last_frame_comes_before_the_limit(rt: HostRuntime) -> Result<(), Fail> {
+    let alloc = rt.alloc();
+    for (last, trap) in [(1_028, Trap::Table), (1_029, Trap::Stack)] {
+        let told = sunk(&rt, alloc, calling(alloc)?, 0, sinking(alloc, last)?)?;
+        assert_eq!(rt; told, (10_231, End::Trapped(trap)), "at {last}");
+    }
+    Ok(())
+}
+
+/// Whether a function with this code ends after so many units.
+fn ends(
+    rt: &impl Abort,
+    alloc: Global,
+    code: Vec<Instr>,
+    pages: u32,
+    units: u64,
+) -> Result<bool, Fail> {
     let program = alone(rt, alloc, code)?;
     let told = played(rt, alloc, &program, pages, 1_000, 1_000)?;
-    Ok(told.used == 7 && told.end == End::Done)
+    Ok(told.used == units && told.end == End::Done)
 }
 
 #[test]
 fn a_memory_grows_to_the_pages_given_and_to_its_maximum(rt: HostRuntime) -> Result<(), Fail> {
+    let alloc = rt.alloc();
     let cases = [
-        (1, 1, true),
-        (1, 2, false),
-        (2, 2, true),
-        (2, 3, false),
-        (3, 9, true),
+        (1, 1, u32::MAX),
+        (1, 2, 1),
+        (2, 2, u32::MAX),
+        (2, 3, 1),
+        (3, 9, u32::MAX),
+        (u32::MAX, 9, u32::MAX),
+        (0, 1, 1),
+        (0, 0, u32::MAX),
     ];
-    for (by, pages, refused) in cases {
-        assert_eq!(rt;
-            stays(&rt, rt.alloc(), by, pages)?,
-            refused,
-            "by {by} of {pages}"
-        );
+    for (by, pages, answer) in cases {
+        let code = growing(alloc, by, answer)?;
+        assert!(rt; ends(&rt, alloc, code, pages, 7)?, "by {by} of {pages}");
+    }
+    Ok(())
+}
+
+#[test]
+fn a_branch_keeps_the_topmost_value(rt: HostRuntime) -> Result<(), Fail> {
+    let alloc = rt.alloc();
+    for (branch, sum) in [(Instr::Br(1), 2), (Instr::BrIf(1), 5)] {
+        let code = branching(alloc, branch, sum)?;
+        assert!(rt; ends(&rt, alloc, code, 1, 15)?, "{sum}");
     }
     Ok(())
 }

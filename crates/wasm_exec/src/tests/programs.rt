@@ -4,7 +4,7 @@ use super::modules::SECOND;
 use crate::Trap;
 use std::alloc::Global;
 use std::test::Fail;
-use wasm_ast::{Indices, Instr, Seq};
+use wasm_ast::{Indices, Instr, Seq, ValType};
 
 /// Code that tells which function runs.
 #[derive(Clone, Copy, Debug)]
@@ -135,6 +135,59 @@ pub(super) fn wants(alloc: Global, code: &mut Vec<Instr>, value: u32) -> Result<
     code.push(Instr::Num(0x47))?;
     code.push(Instr::If(None, other, Seq::new(Vec::new(alloc))))?;
     Ok(())
+}
+
+/// Grows the memory by so many pages, and wants this answer.
+pub(super) fn growing(alloc: Global, by: u32, answer: u32) -> Result<Vec<Instr>, Fail> {
+    let mut code = vec![in alloc; Instr::I32Const(by), Instr::MemoryGrow]?;
+    wants(alloc, &mut code, answer)?;
+    Ok(code)
+}
+
+/// Adds 1 and what a branch out of two blocks keeps of 9, 2, 3, 4 and 1, and wants this sum.
+pub(super) fn branching(alloc: Global, branch: Instr, sum: u32) -> Result<Vec<Instr>, Fail> {
+    let inner = Seq::new(vec![in alloc;
+        Instr::I32Const(2),
+        Instr::I32Const(3),
+        Instr::I32Const(4),
+        Instr::I32Const(1),
+        branch,
+        Instr::Unreachable,
+    ]?);
+    let outer = Seq::new(vec![in alloc; Instr::I32Const(9), Instr::Block(None, inner)]?);
+    let mut code = vec![in alloc;
+        Instr::I32Const(1),
+        Instr::Block(Some(ValType::I32), outer),
+        Instr::Num(0x6A),
+    ]?;
+    wants(alloc, &mut code, sum)?;
+    Ok(code)
+}
+
+/// So many blocks, each in the next, around a call of the second function.
+pub(super) fn nested(alloc: Global, blocks: u32) -> Result<Vec<Instr>, Fail> {
+    let mut code = calling(alloc)?;
+    for _ in 0..blocks {
+        let inner = Seq::new(code);
+        code = vec![in alloc; Instr::Block(None, inner)]?;
+    }
+    Ok(code)
+}
+
+/// Adds 1 to the global and calls the second function by the table; past the table's end, where the global is now this.
+pub(super) fn sinking(alloc: Global, last: u32) -> Result<Vec<Instr>, Fail> {
+    Ok(vec![in alloc;
+        Instr::GlobalGet(0),
+        Instr::I32Const(1),
+        Instr::Num(0x6A),
+        Instr::GlobalSet(0),
+        Instr::I32Const(2),
+        Instr::GlobalGet(0),
+        Instr::I32Const(last),
+        Instr::Num(0x46),
+        Instr::Num(0x6A),
+        Instr::CallIndirect(0),
+    ]?)
 }
 
 /// Adds 1 to the global.
