@@ -113,22 +113,22 @@ fn echo(rt: &impl Abort, alloc: Global) -> Result<ValidModule, Fail> {
     module(rt, alloc, 1, code)
 }
 
-/// A sandbox that may have one page.
+/// A sandbox that may have 256 pages.
 fn ready(rt: &impl Abort, alloc: Global, module: &ValidModule) -> Result<Sandbox, Fail>
     ensures { IfOk result (IsReady module.now) }
 {
-    match Sandbox::fresh(alloc, module, 1)? {
+    match Sandbox::fresh(alloc, module, 256)? {
         Begun::Ready(sandbox) => Ok(sandbox),
         Begun::Pages => panic!(rt; "too few pages"),
     }
 }
 
-/// The call that it asks with the last of so many units.
+/// The call that it asks with the last of so many units, where more are given.
 fn asking(rt: &impl Abort, module: &ValidModule, sandbox: Sandbox, units: u64) -> Suspended
     requires { IsReady module.now sandbox }
     ensures { IsWaiting module.now result }
 {
-    let Went { used, going } = sandbox.go(module, 1, units);
+    let Went { used, going } = sandbox.go(module, 256, 100);
     assert_eq!(rt; used, units);
     match going {
         Going::Asks(suspended) => suspended,
@@ -136,7 +136,7 @@ fn asking(rt: &impl Abort, module: &ValidModule, sandbox: Sandbox, units: u64) -
     }
 }
 
-/// It goes on behind the call, with the answer 3 where there is one.
+/// It goes on behind the call, with the answer 2 where there is one.
 fn answered(module: &ValidModule, suspended: Suspended) -> Sandbox
     requires { IsWaiting module.now suspended }
     ensures { IsReady module.now result }
@@ -146,7 +146,7 @@ fn answered(module: &ValidModule, suspended: Suspended) -> Sandbox
         | HostName::Read
         | HostName::Write
         | HostName::Delete
-        | HostName::OwnLabel => suspended.answer(Some(3)),
+        | HostName::OwnLabel => suspended.answer(Some(2)),
         HostName::Send | HostName::Raise | HostName::Reply | HostName::Release => {
             suspended.answer(None)
         }
@@ -189,13 +189,13 @@ fn a_fresh_memory_is_that_of_the_module(rt: HostRuntime) -> Result<(), Fail> {
 fn units_spent_and_a_trap(rt: HostRuntime) -> Result<(), Fail> {
     let code = vec![in rt.alloc(); Instr::Nop, Instr::Unreachable]?;
     let program = module(&rt, rt.alloc(), 1, code)?;
-    let Went { used, going } = ready(&rt, rt.alloc(), &program)?.go(&program, 1, 1);
+    let Went { used, going } = ready(&rt, rt.alloc(), &program)?.go(&program, 256, 1);
     assert_eq!(rt; used, 1);
     let sandbox = match going {
         Going::Spent(sandbox) => sandbox,
         _other => panic!(rt; "it ended"),
     };
-    let then = sandbox.go(&program, 1, 9);
+    let then = sandbox.go(&program, 256, 9);
     assert_eq!(rt; then.used, 1);
     assert!(rt; matches!(then.going, Going::Trapped(Trap::Unreachable)));
     Ok(())
@@ -218,7 +218,7 @@ fn given(rt: &impl Abort, alloc: Global, module: &ValidModule) -> Result<Suspend
 /// It replies, with these bytes in its memory.
 fn replies(rt: &impl Abort, reply: &Suspended) {
     assert!(rt; reply.asked().name == HostName::Reply);
-    assert!(rt; reply.asked().args == [0, 3, 0, 0]);
+    assert!(rt; reply.asked().args == [0, 2, 0, 0]);
     assert_eq!(rt; six(reply, 4), Some(*b"abxyef"));
     assert_eq!(rt; six(reply, 65_531), None);
 }
@@ -229,7 +229,7 @@ fn what_it_asks_and_how_it_ends(rt: HostRuntime) -> Result<(), Fail> {
     let input = given(&rt, rt.alloc(), &program)?;
     let reply = asking(&rt, &program, answered(&program, input), 1);
     replies(&rt, &reply);
-    let went = answered(&program, reply).go(&program, 1, 9);
+    let went = answered(&program, reply).go(&program, 256, 9);
     assert!(rt; went.used == 1 && matches!(went.going, Going::Done));
     Ok(())
 }
