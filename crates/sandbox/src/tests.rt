@@ -3,114 +3,22 @@
 ghost use Rattle.std.specs.Prelude.{◌≡◌, IfOk};
 ghost use Rattle.sandbox.specs.Threads.{IsReady, IsWaiting};
 
+mod machines;
+mod modules;
+mod programs;
+
 use super::*;
+use modules::alone;
+use programs::{Worked, code_of};
 use std::alloc::Global;
 use std::process::Abort;
 use std::test::Fail;
-use wasm_ast::{
-    Body, Export, ExportKind, FuncType, HostName, Import, ImportKind, Instr, MemoryType, Module,
-    Octets, Piece, Seq, ValType,
-};
-use wasm_validate::{ValidModule, validate};
+use wasm_ast::{HostName, Instr};
+use wasm_validate::ValidModule;
 
-fn i32s(alloc: Global, count: usize) -> Result<Vec<ValType>, Fail> {
-    Ok(Vec::from_elem(alloc, ValType::I32, count)?)
-}
-
-/// The types of `input`, of `reply` and of `handle`.
-fn types(alloc: Global) -> Result<Vec<FuncType>, Fail> {
-    let input = FuncType::new(i32s(alloc, 2)?, i32s(alloc, 1)?);
-    let reply = FuncType::new(i32s(alloc, 2)?, Vec::new(alloc));
-    let handle = FuncType::new(Vec::new(alloc), Vec::new(alloc));
-    Ok(vec![in alloc; input, reply, handle]?)
-}
-
-fn import(alloc: Global, name: &[u8], kind: u32) -> Result<Import, Fail> {
-    let module = Octets::copy(alloc, b"trapeze")?;
-    let name = Octets::copy(alloc, name)?;
-    Ok(Import::new(module, name, ImportKind::Function(kind)))
-}
-
-fn imports(alloc: Global) -> Result<Vec<Import>, Fail> {
-    let input = import(alloc, b"input", 0)?;
-    let reply = import(alloc, b"reply", 1)?;
-    Ok(vec![in alloc; input, reply]?)
-}
-
-fn exports(alloc: Global) -> Result<Vec<Export>, Fail> {
-    let name = Octets::copy(alloc, b"handle")?;
-    Ok(vec![in alloc; Export::new(name, ExportKind::Function, 2)]?)
-}
-
-/// The bytes `abcdef` at address 4.
-fn pieces(alloc: Global) -> Result<Vec<Piece>, Fail> {
-    let offset = Seq::new(vec![in alloc; Instr::I32Const(4)]?);
-    let bytes = Octets::copy(alloc, b"abcdef")?;
-    Ok(vec![in alloc; Piece::new(0, offset, bytes)]?)
-}
-
-fn memories(alloc: Global, pages: u32) -> Result<Vec<MemoryType>, Fail> {
-    Ok(vec![in alloc; MemoryType::new(pages, None)]?)
-}
-
-/// Bodies as `decode` gives them: one, of `handle`.
-fn bodies(alloc: Global, code: Vec<Instr>) -> Result<Vec<Body>, Fail> {
-    Ok(vec![in alloc; Body::new(Vec::new(alloc), Seq::new(code))]?)
-}
-
-fn parts(alloc: Global, pages: u32, code: Vec<Instr>) -> Result<Module, Fail> {
-    let types = types(alloc)?;
-    let imports = imports(alloc)?;
-    let exports = exports(alloc)?;
-    let pieces = pieces(alloc)?;
-    let memories = memories(alloc, pages)?;
-    let bodies = bodies(alloc, code)?;
-    Ok(Module::new(
-        types,
-        imports,
-        vec![in alloc; 2]?,
-        Vec::new(alloc),
-        memories,
-        Vec::new(alloc),
-        exports,
-        None,
-        Vec::new(alloc),
-        pieces,
-        bodies,
-    ))
-}
-
-/// A module whose `handle` has this code, and whose memory has so many pages and no maximum.
-fn module(
-    rt: &impl Abort,
-    alloc: Global,
-    pages: u32,
-    code: Vec<Instr>,
-) -> Result<ValidModule, Fail> {
-    let module = parts(alloc, pages, code)?;
-    let most = u32::MAX as usize;
-    assert!(rt; module.types().len() <= most && module.imports().len() <= most);
-    assert!(rt; module.functions().len() <= most && module.tables().len() <= most);
-    assert!(rt; module.memories().len() <= most && module.globals().len() <= most);
-    assert!(rt; module.exports().len() <= most && module.elements().len() <= most);
-    assert!(rt; module.pieces().len() <= most && module.bodies().len() <= most);
-    assert!(rt; module.bodies().len() == module.functions().len());
-    match validate(alloc, module) {
-        Ok(valid) => Ok(valid),
-        Err((_, invalid)) => panic!(rt; "{invalid:?}"),
-    }
-}
-
-/// A function that replies with its input, by a memory of one page.
+/// A function that replies with its input.
 fn echo(rt: &impl Abort, alloc: Global) -> Result<ValidModule, Fail> {
-    let code = vec![in alloc;
-        Instr::I32Const(0),
-        Instr::I32Const(0),
-        Instr::I32Const(65_536),
-        Instr::Call(0),
-        Instr::Call(1),
-    ]?;
-    module(rt, alloc, 1, code)
+    alone(rt, alloc, code_of(alloc, Worked::Echo)?)
 }
 
 /// A sandbox that may have 256 pages.
@@ -164,10 +72,10 @@ fn six(suspended: &Suspended, at: u32) -> Option<[u8; 6]> {
 
 #[test]
 fn too_few_pages(rt: HostRuntime) -> Result<(), Fail> {
-    for (least, pages, few) in [(1, 0, true), (1, 1, false), (3, 2, true), (3, 3, false)] {
-        let program = module(&rt, rt.alloc(), least, Vec::new(rt.alloc()))?;
+    let program = echo(&rt, rt.alloc())?;
+    for (pages, few) in [(0, true), (1, false)] {
         let begun = Sandbox::fresh(rt.alloc(), &program, pages)?;
-        assert_eq!(rt; matches!(begun, Begun::Pages), few, "{least} of {pages}");
+        assert_eq!(rt; matches!(begun, Begun::Pages), few, "{pages}");
     }
     Ok(())
 }
@@ -178,9 +86,9 @@ fn a_fresh_memory_is_that_of_the_module(rt: HostRuntime) -> Result<(), Fail> {
     for _ in 0..2 {
         let sandbox = ready(&rt, rt.alloc(), &program)?;
         let mut suspended = asking(&rt, &program, sandbox, 4);
-        assert_eq!(rt; six(&suspended, 4), Some(*b"abcdef"));
-        assert_eq!(rt; six(&suspended, 10), Some([0; 6]));
-        assert!(rt; suspended.put(8, b"earlier").is_ok());
+        assert_eq!(rt; six(&suspended, 0), Some(*b"abcdef"));
+        assert_eq!(rt; six(&suspended, 6), Some([0; 6]));
+        assert!(rt; suspended.put(4, b"earlier").is_ok());
     }
     Ok(())
 }
@@ -188,7 +96,7 @@ fn a_fresh_memory_is_that_of_the_module(rt: HostRuntime) -> Result<(), Fail> {
 #[test]
 fn units_spent_and_a_trap(rt: HostRuntime) -> Result<(), Fail> {
     let code = vec![in rt.alloc(); Instr::Nop, Instr::Unreachable]?;
-    let program = module(&rt, rt.alloc(), 1, code)?;
+    let program = alone(&rt, rt.alloc(), code)?;
     let Went { used, going } = ready(&rt, rt.alloc(), &program)?.go(&program, 256, 1);
     assert_eq!(rt; used, 1);
     let sandbox = match going {
@@ -210,7 +118,7 @@ fn given(rt: &impl Abort, alloc: Global, module: &ValidModule) -> Result<Suspend
     assert!(rt; input.asked().name == HostName::Input);
     assert!(rt; input.asked().args == [0, 65_536, 0, 0]);
     assert_eq!(rt; input.memory_len(), 65_536);
-    assert!(rt; input.put(6, b"xy").is_ok());
+    assert!(rt; input.put(2, b"xy").is_ok());
     assert!(rt; input.put(65_535, b"xy").is_err());
     Ok(input)
 }
@@ -219,7 +127,7 @@ fn given(rt: &impl Abort, alloc: Global, module: &ValidModule) -> Result<Suspend
 fn replies(rt: &impl Abort, reply: &Suspended) {
     assert!(rt; reply.asked().name == HostName::Reply);
     assert!(rt; reply.asked().args == [0, 2, 0, 0]);
-    assert_eq!(rt; six(reply, 4), Some(*b"abxyef"));
+    assert_eq!(rt; six(reply, 0), Some(*b"abxyef"));
     assert_eq!(rt; six(reply, 65_531), None);
 }
 

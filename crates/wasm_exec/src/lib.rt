@@ -16,6 +16,3 @@ mod stops;
 pub use machine::Machine;
 pub use stops::{Asked, Ran, Stop};
 pub use wasm_semantics::Trap;
-
-#[cfg(test)]
-mod tests;

@@ -1,15 +1,11 @@
-//! Functions that run from their beginning to their end, with ample memory.
+//! Machines that run functions from their beginning to their end, with ample memory.
 
 ghost use Rattle.std.specs.Prelude.{◌≡◌, is_some, OnOk};
 ghost use Rattle.wasm_exec.specs.Asking.{has_answer};
 ghost use Rattle.wasm_exec.specs.Machines.{IsReady};
 
-mod modules;
-mod programs;
-
-use super::*;
-use modules::{SECOND, body, module};
-use programs::{
+use super::modules::{SECOND, alone, body, module};
+use super::programs::{
     Worked, branching, calling, code_of, counting, growing, mixed, nested, sinking, spinning,
     trapping, wants,
 };
@@ -17,6 +13,7 @@ use std::alloc::Global;
 use std::process::Abort;
 use std::test::Fail;
 use wasm_ast::{HostName, Instr};
+use wasm_exec::{Asked, Machine, Stop, Trap};
 use wasm_validate::ValidModule;
 
 /// How a thread ended.
@@ -111,13 +108,6 @@ fn played(
     panic!(rt; "no end")
 }
 
-/// A module whose second function does nothing; `handle` has one local.
-fn alone(rt: &impl Abort, alloc: Global, code: Vec<Instr>) -> Result<ValidModule, Fail> {
-    let handle = body(alloc, 1, code)?;
-    let second = body(alloc, 0, Vec::new(alloc))?;
-    module(rt, alloc, handle, second, None)
-}
-
 /// A module whose second function counts in the global.
 fn counted(rt: &impl Abort, alloc: Global) -> Result<ValidModule, Fail> {
     let handle = body(alloc, 1, mixed(alloc)?)?;
@@ -147,19 +137,12 @@ fn the_worked_functions_ask_the_host(rt: HostRuntime) -> Result<(), Fail> {
 }
 
 #[test]
-fn a_program_told_in_full(rt: HostRuntime) -> Result<(), Fail> {
-    let program = counted(&rt, rt.alloc())?;
-    let told = played(&rt, rt.alloc(), &program, 1, 1_000, 1_000)?;
-    assert_eq!(rt; (told.used, told.end), (54, End::Done));
-    assert!(rt; told.asks.as_slice() == [(HostName::Input, [0, 8, 0, 0])].as_slice());
-    assert_eq!(rt; told.memory, *b"\x09\0\0\0ef");
-    Ok(())
-}
-
-#[test]
 fn a_run_that_is_cut_anywhere_ends_the_same(rt: HostRuntime) -> Result<(), Fail> {
     let program = counted(&rt, rt.alloc())?;
     let whole = played(&rt, rt.alloc(), &program, 1, 1_000, 1_000)?;
+    assert_eq!(rt; (whole.used, whole.end), (54, End::Done));
+    assert!(rt; whole.asks.as_slice() == [(HostName::Input, [0, 8, 0, 0])].as_slice());
+    assert_eq!(rt; whole.memory, *b"\x09\0\0\0ef");
     for cut in 0..whole.used {
         let parts = played(&rt, rt.alloc(), &program, 1, cut, 1_000)?;
         assert!(rt; parts == whole, "cut at {cut}");

@@ -135,3 +135,10 @@ pub(super) fn module(
         Err((_, invalid)) => panic!(rt; "{invalid:?}"),
     }
 }
+
+/// A module whose second function does nothing; `handle` has one local.
+pub(super) fn alone(rt: &impl Abort, alloc: Global, code: Vec<Instr>) -> Result<ValidModule, Fail> {
+    let handle = body(alloc, 1, code)?;
+    let second = body(alloc, 0, Vec::new(alloc))?;
+    module(rt, alloc, handle, second, None)
+}
