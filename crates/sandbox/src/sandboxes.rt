@@ -1,6 +1,6 @@
 //! Sandboxes that run.
 
-ghost use Rattle.std.specs.Prelude.{◌≡◌, ◌≤◌, IfOk};
+ghost use Rattle.std.specs.Prelude.{◌≡◌, ◌≤◌, IfOk, OnErr};
 ghost use Rattle.wasm_ast.specs.Spaces.{first_pages};
 ghost use Rattle.wasm_semantics.specs.Units.{units as units_of};
 ghost use Rattle.sandbox.specs.Threads.{thread_of, IsReady};
@@ -34,9 +34,10 @@ impl Sandbox {
     ///
     /// # Errors
     ///
-    /// Out of memory.
+    /// Out of memory, where the memory may have so many pages.
     pub fn fresh(alloc: Global, module: &ValidModule, pages: u32) -> Result<Begun, NoMemory>
-        ensures { IfOk result (Begins module.now pages) }
+        ensures begins { IfOk result (Begins module.now pages) }
+        ensures room { OnErr result (first_pages module.now ≤ pages) }
     {
         if least_pages(module.module()) > pages {
             return Ok(Begun::Pages);
