@@ -3,13 +3,11 @@
 mod faults;
 mod gates;
 mod order;
-mod parts;
 mod ranges;
 mod sizes;
 mod whole;
 
-use crate::{Part, Place, PolicyError, read_policy};
-use label_lattice::LatticeError;
+use crate::{Part, Place, Policy, PolicyError, read_policy};
 use std::alloc::Global;
 use std::process::Abort;
 use std::test::Fail;
@@ -53,9 +51,26 @@ fn fault(wrong: Wrong, place: Place) -> PolicyError {
     }
 }
 
+/// Two texts, one after the other.
+fn joined(alloc: Global, head: &str, rest: &str) -> Result<String, Fail> {
+    let mut text = String::from_str(alloc, head)?;
+    text.push_str(rest)?;
+    Ok(text)
+}
+
+/// The policy that a text is.
+fn policy_of(rt: &impl Abort, alloc: Global, text: &str) -> Policy {
+    read_policy(alloc, text.as_bytes()).expect(rt, "a policy")
+}
+
 /// The first fault of a text, if it has one.
 fn fault_of(alloc: Global, text: &str) -> Option<PolicyError> {
     read_policy(alloc, text.as_bytes()).err()
+}
+
+/// The text has this first fault, or none.
+fn has_fault(rt: &impl Abort, alloc: Global, text: &str, want: Option<PolicyError>) {
+    assert_eq!(rt; fault_of(alloc, text), want, "{text}");
 }
 
 /// Each text, after the same head, has the fault at the place that stands beside it.
@@ -66,33 +81,9 @@ fn have_first_faults(
     cases: &[Placed],
 ) -> Result<(), Fail> {
     for (text, wrong, part, row, item) in cases {
-        let whole = format!(in alloc; "{head}{text}")?;
-        let place = Place {
-            part: *part,
-            row: *row,
-            item: *item,
-        };
-        assert_eq!(rt;
-            fault_of(alloc, whole.as_str()),
-            Some(fault(*wrong, place)),
-            "{text}"
-        );
-    }
-    Ok(())
-}
-
-/// Each text has the fault of its labels and flows that stands beside it.
-fn have_lattice_faults(
-    rt: &impl Abort,
-    alloc: Global,
-    cases: &[(&'static str, LatticeError)],
-) -> Result<(), Fail> {
-    for (text, want) in cases {
-        assert_eq!(rt;
-            fault_of(alloc, text),
-            Some(PolicyError::Lattice(*want)),
-            "{text}"
-        );
+        let text = joined(alloc, head, text)?;
+        let want = fault(*wrong, Place::field(*part, *row, *item));
+        has_fault(rt, alloc, text.as_str(), Some(want));
     }
     Ok(())
 }
@@ -106,17 +97,9 @@ fn have_their_faults(
     cases: &[Case],
 ) -> Result<(), Fail> {
     for (text, wrong, row, item) in cases {
-        let whole = format!(in alloc; "{head}{text}")?;
-        let place = Place {
-            part,
-            row: *row,
-            item: *item,
-        };
-        assert_eq!(rt;
-            fault_of(alloc, whole.as_str()),
-            Some(fault(*wrong, place)),
-            "{text}"
-        );
+        let text = joined(alloc, head, text)?;
+        let want = fault(*wrong, Place::field(part, *row, *item));
+        has_fault(rt, alloc, text.as_str(), Some(want));
     }
     Ok(())
 }

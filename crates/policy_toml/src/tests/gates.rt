@@ -1,23 +1,28 @@
 //! The gates of a policy: every fault with its row and item, faults that stand together, and gates that are read.
 
-use super::{Case, DIAMOND, HEAD, Wrong, have_their_faults};
-use crate::{Part, Policy, read_policy};
+use super::{Case, DIAMOND, HEAD, Wrong, have_their_faults, joined, policy_of};
+use crate::{Part, Policy};
 use gate_rules::Passage;
 use label_lattice::Label;
 use std::alloc::Global;
 use std::process::Abort;
 use std::test::Fail;
-use trapeze_io::Bytes;
 
-static FAULTS: [Case; 26] = [
-    ("gates = 1", Wrong::Kind, 0, 0),
+/// A gate with all its fields but the last ones.
+const GATE: &str = "labels = ['low', 'top']
+flows = [['low', 'top']]
+functions = { hello = 'echo.wasm' }
+[gates.g]
+source = 'top'
+target = 'low'
+function = 'hello'
+";
+
+static ROWS: [Case; 10] = [
     ("gates = []", Wrong::Kind, 0, 0),
-    ("gates = { G = {} }", Wrong::BadName, 1, 0),
     ("gates = { '' = {} }", Wrong::BadName, 1, 0),
     ("gates = { g = 'low' }", Wrong::Kind, 1, 0),
-    ("[[gates.g]]\nsource = 'top'", Wrong::Kind, 1, 0),
     ("gates = { g = { label = 'low' } }", Wrong::Extra, 1, 0),
-    ("gates = { g = {} }", Wrong::Missing, 1, 1),
     ("gates = { g = { source = 1 } }", Wrong::Kind, 1, 1),
     (
         "gates = { g = { source = 'mid' } }",
@@ -39,78 +44,6 @@ static FAULTS: [Case; 26] = [
         2,
     ),
     (
-        "gates = { g = { source = 'top', target = 'low' } }",
-        Wrong::Missing,
-        1,
-        3,
-    ),
-    (
-        "[gates.g]\nsource = 'top'\ntarget = 'low'\nfunction = 1",
-        Wrong::Kind,
-        1,
-        3,
-    ),
-    (
-        "[gates.g]\nsource = 'top'\ntarget = 'low'\nfunction = 'low'",
-        Wrong::UnknownFunction,
-        1,
-        3,
-    ),
-    (
-        "[gates.g]\nsource = 'top'\ntarget = 'low'\nfunction = 'hello'",
-        Wrong::Missing,
-        1,
-        4,
-    ),
-    (
-        "[gates.g]\nsource = 'top'\ntarget = 'low'\nfunction = 'hello'\nfilter = 1",
-        Wrong::Kind,
-        1,
-        4,
-    ),
-    (
-        "[gates.g]\nsource = 'top'\ntarget = 'low'\nfunction = 'hello'\nfilter = 'All'",
-        Wrong::Kind,
-        1,
-        4,
-    ),
-    (
-        "[gates.g]\nsource = 'top'\ntarget = 'low'\nfunction = 'hello'\nfilter = ''",
-        Wrong::Kind,
-        1,
-        4,
-    ),
-    (
-        "[gates.g]\nsource = 'top'\ntarget = 'low'\nfunction = 'hello'\nfilter = 'first'\ncount = '1'",
-        Wrong::Kind,
-        1,
-        5,
-    ),
-    (
-        "[gates.g]\nsource = 'top'\ntarget = 'low'\nfunction = 'hello'\nfilter = 'first'\ncount = -1",
-        Wrong::OutOfRange,
-        1,
-        5,
-    ),
-    (
-        "[gates.g]\nsource = 'top'\ntarget = 'low'\nfunction = 'hello'\nfilter = 'first'\ncount = 65537",
-        Wrong::OutOfRange,
-        1,
-        5,
-    ),
-    (
-        "[gates.g]\nsource = 'top'\ntarget = 'low'\nfunction = 'hello'\nfilter = 'all'\ncount = 65537",
-        Wrong::OutOfRange,
-        1,
-        5,
-    ),
-    (
-        "[gates.g]\nsource = 'top'\ntarget = 'low'\nfunction = 'hello'\nfilter = 'all'\n[gates.z]",
-        Wrong::Missing,
-        2,
-        1,
-    ),
-    (
         "[gates.z]\nsource = 'top'\ntarget = 'low'\nfunction = 'hello'\nfilter = 'all'\n[gates.g]",
         Wrong::Missing,
         1,
@@ -118,17 +51,28 @@ static FAULTS: [Case; 26] = [
     ),
 ];
 
-static TOGETHER: [Case; 9] = [
+static FUNCTION_OF_A_GATE: [Case; 3] = [
+    ("", Wrong::Missing, 1, 3),
+    ("function = 1", Wrong::Kind, 1, 3),
+    ("function = 'low'", Wrong::UnknownFunction, 1, 3),
+];
+
+static FILTERS: [Case; 8] = [
+    ("", Wrong::Missing, 1, 4),
+    ("filter = 1", Wrong::Kind, 1, 4),
+    ("filter = 'All'", Wrong::Kind, 1, 4),
+    ("filter = 'first'\ncount = '1'", Wrong::Kind, 1, 5),
+    ("filter = 'first'\ncount = -1", Wrong::OutOfRange, 1, 5),
+    ("filter = 'first'\ncount = 65537", Wrong::OutOfRange, 1, 5),
+    ("filter = 'all'\ncount = 65537", Wrong::OutOfRange, 1, 5),
+    ("filter = 'all'\n[gates.z]", Wrong::Missing, 2, 1),
+];
+
+static TOGETHER: [Case; 7] = [
     ("gates = { G = 1 }", Wrong::BadName, 1, 0),
     ("gates = { a = 1, 'b c' = {} }", Wrong::Kind, 1, 0),
     ("gates = { g = { extra = 1 } }", Wrong::Extra, 1, 0),
     ("gates = { g = { target = 'mid' } }", Wrong::Missing, 1, 1),
-    (
-        "gates = { g = { source = 'mid', target = 1 } }",
-        Wrong::UnknownLabel,
-        1,
-        1,
-    ),
     (
         "gates = { g = { source = 'top', target = 'mid', function = 'mid' } }",
         Wrong::UnknownLabel,
@@ -142,12 +86,6 @@ static TOGETHER: [Case; 9] = [
         3,
     ),
     (
-        "[gates.g]\nsource = 'top'\ntarget = 'low'\nfunction = 'hello'\nfilter = 'mid'\ncount = -1",
-        Wrong::Kind,
-        1,
-        4,
-    ),
-    (
         "[gates.g]\nsource = 'top'\ntarget = 'low'\nfunction = 'hello'\ncount = -1",
         Wrong::Missing,
         1,
@@ -156,8 +94,21 @@ static TOGETHER: [Case; 9] = [
 ];
 
 #[test]
-fn faults_of_the_gates(rt: HostRuntime) -> Result<(), Fail> {
-    have_their_faults(&rt, rt.alloc(), HEAD, Part::Gates, &FAULTS)
+fn faults_of_the_rows_of_the_gates(rt: HostRuntime) -> Result<(), Fail> {
+    have_their_faults(&rt, rt.alloc(), HEAD, Part::Gates, &ROWS)
+}
+
+#[test]
+fn faults_of_the_function_of_a_gate(rt: HostRuntime) -> Result<(), Fail> {
+    let gate = "[gates.g]\nsource = 'top'\ntarget = 'low'\n";
+    let head = joined(rt.alloc(), HEAD, gate)?;
+    let cases = &FUNCTION_OF_A_GATE;
+    have_their_faults(&rt, rt.alloc(), head.as_str(), Part::Gates, cases)
+}
+
+#[test]
+fn faults_of_the_filter_of_a_gate(rt: HostRuntime) -> Result<(), Fail> {
+    have_their_faults(&rt, rt.alloc(), GATE, Part::Gates, &FILTERS)
 }
 
 #[test]
@@ -183,21 +134,26 @@ function = \"store\"
 
 /// The policy of four labels with the gate g from alice to low, whose last fields are these.
 fn with_gate(rt: &impl Abort, alloc: Global, fields: &str) -> Result<Policy, Fail> {
-    let text = format!(in alloc; "{DIAMOND}{FUNCTIONS}{fields}")?;
-    Ok(read_policy(alloc, text.as_bytes()).expect(rt, "a policy"))
+    let head = joined(alloc, DIAMOND, FUNCTIONS)?;
+    let text = joined(alloc, head.as_str(), fields)?;
+    Ok(policy_of(rt, alloc, text.as_str()))
 }
 
-/// What passes a gate from a label, of the bytes `hi`, or a word that says that nothing does.
-fn passing(alloc: Global, policy: &Policy, from: u8, name: &str) -> Result<Bytes, Fail> {
+/// What becomes of the bytes `hi` that are released from a label through a gate.
+fn passage(rt: &impl Abort, policy: &Policy, from: u8, name: &str) -> Passage {
     let lattice = policy.lattice();
-    if from >= lattice.count() {
-        return Err("a label")?;
-    }
+    assert!(rt; from < lattice.count());
     let from = Label::numbered(from);
-    match policy.gates().pass(lattice, from, name.as_bytes(), b"hi")? {
-        Passage::Pass { gate: _, bytes } => Ok(bytes),
-        Passage::Vanishes => Ok(Bytes::copy(alloc, b"vanishes")?),
-        Passage::Unknown => Ok(Bytes::copy(alloc, b"unknown")?),
+    let passage = policy.gates().pass(lattice, from, name.as_bytes(), b"hi");
+    passage.expect(rt, "ample memory")
+}
+
+/// The bytes that pass, or a word that says that none do.
+fn passed(passage: &Passage) -> &[u8] {
+    match passage {
+        Passage::Pass { gate: _, bytes } => bytes.as_slice(),
+        Passage::Vanishes => b"vanishes",
+        Passage::Unknown => b"unknown",
     }
 }
 
@@ -214,10 +170,10 @@ static PASSES: [(&str, u8, &str, &[u8]); 7] = [
 
 #[test]
 fn gates_are_read_with_their_filters(rt: HostRuntime) -> Result<(), Fail> {
-    for (fields, from, name, passed) in &PASSES {
+    for (fields, from, name, bytes) in &PASSES {
         let policy = with_gate(&rt, rt.alloc(), fields)?;
-        let found = passing(rt.alloc(), &policy, *from, name)?;
-        assert_eq!(rt; found.as_slice(), *passed, "{fields}");
+        let passage = passage(&rt, &policy, *from, name);
+        assert_eq!(rt; passed(&passage), *bytes, "{fields}");
     }
     Ok(())
 }

@@ -1,41 +1,18 @@
 //! Faults that stand together: the first in the order of the steps is the answer.
 
-use super::{Case, HEAD, Placed, Wrong, have_first_faults, have_lattice_faults, have_their_faults};
-use crate::Part;
+use super::{Case, HEAD, Placed, Wrong, has_fault, have_first_faults, have_their_faults};
+use crate::{Part, PolicyError};
 use label_lattice::{Label, LatticeError};
 use std::test::Fail;
 
-static STEPS: [Placed; 15] = [
-    ("gate = 1", Wrong::Extra, Part::Root, 1, 0),
+static STEPS: [Placed; 8] = [
     ("labels = 1\ngate = 1", Wrong::Extra, Part::Root, 1, 0),
     ("flows = 1", Wrong::Missing, Part::Labels, 0, 0),
     (
-        "labels = ['low', 1]\nflows = 1",
-        Wrong::Kind,
-        Part::Labels,
-        2,
-        0,
-    ),
-    ("labels = []\nflows = 1", Wrong::Kind, Part::Flows, 0, 0),
-    (
-        "labels = ['low', 'low']\nflows = [['low']]",
-        Wrong::Kind,
-        Part::Flows,
-        1,
-        0,
-    ),
-    (
-        "labels = ['low']\nflows = [['up', 'low'], 1]",
+        "labels = ['low', 'low']\nflows = [['up', 'low'], 1]",
         Wrong::Kind,
         Part::Flows,
         2,
-        0,
-    ),
-    (
-        "labels = ['low']\nlimits = 1\nfunctions = 1",
-        Wrong::Kind,
-        Part::Limits,
-        0,
         0,
     ),
     (
@@ -46,9 +23,9 @@ static STEPS: [Placed; 15] = [
         4,
     ),
     (
-        "labels = ['low']\nchannels = 1\nfunctions = 1",
+        "labels = ['low']\nclients = 1\nlimits = 1",
         Wrong::Kind,
-        Part::Functions,
+        Part::Limits,
         0,
         0,
     ),
@@ -60,25 +37,11 @@ static STEPS: [Placed; 15] = [
         0,
     ),
     (
-        "labels = ['low']\nclients = 1\nchannels = 1",
-        Wrong::Kind,
-        Part::Channels,
-        0,
-        0,
-    ),
-    (
         "labels = ['low']\n[clients.ann]\n[channels.mail]\nlabel = 'low'\nfunction = 'hello'",
         Wrong::UnknownFunction,
         Part::Channels,
         1,
         2,
-    ),
-    (
-        "labels = ['low']\nclients = 1\nlimits = 1",
-        Wrong::Kind,
-        Part::Limits,
-        0,
-        0,
     ),
     (
         "labels = ['low']\ngates = 1\nclients = 1",
@@ -89,9 +52,8 @@ static STEPS: [Placed; 15] = [
     ),
 ];
 
-static LIMITS: [Case; 9] = [
+static LIMITS: [Case; 5] = [
     ("limits = { mid = 1 }", Wrong::UnknownLabel, 1, 0),
-    ("limits = { low = 1, mid = {} }", Wrong::Kind, 1, 0),
     (
         "[limits.low]\nqueue = 0\n[limits.mid]",
         Wrong::OutOfRange,
@@ -100,74 +62,68 @@ static LIMITS: [Case; 9] = [
     ),
     ("[limits.low]\ngate = 1\nqueue = 0", Wrong::Extra, 1, 0),
     (
-        "[limits.top]\ngate = 1\n[limits.low]\nbytes = -1",
-        Wrong::OutOfRange,
-        1,
-        6,
-    ),
-    (
-        "[limits.low]\nbytes = -1\nquantum = 0",
-        Wrong::OutOfRange,
-        1,
-        1,
-    ),
-    (
         "[limits.low]\nbytes = 'many'\nfacets = -1\nqueue = 0\npages = -1\nfuel = 0",
         Wrong::OutOfRange,
         1,
         2,
     ),
     ("[limits.low]\nqueue = 0\npages = 'few'", Wrong::Kind, 1, 3),
-    (
-        "[limits.low]\nfacets = 'few'\nqueue = 0",
-        Wrong::OutOfRange,
-        1,
-        4,
-    ),
 ];
 
-static FUNCTIONS: [Case; 4] = [
-    ("functions = { Hello = 1 }", Wrong::BadName, 1, 0),
+static FUNCTIONS: [Case; 3] = [
     ("functions = { Hello = '' }", Wrong::BadName, 1, 0),
     ("functions = { a = 1, 'b c' = 'e' }", Wrong::Kind, 1, 0),
     ("functions = { a = '', b = 1 }", Wrong::OutOfRange, 1, 0),
 ];
 
-static CHANNELS: [Case; 9] = [
-    ("channels = { Mail = 1 }", Wrong::BadName, 1, 0),
-    ("[channels.Mail]\ngate = 1", Wrong::BadName, 1, 0),
-    ("channels = { a = 1, 'b c' = 1 }", Wrong::Kind, 1, 0),
-    ("[channels.mail]\ngate = 1", Wrong::Extra, 1, 0),
+static CHANNELS_AND_CLIENTS: [Placed; 8] = [
     (
-        "[channels.mail]\ngate = 1\nlabel = 'mid'\nfunction = 'help'",
-        Wrong::Extra,
+        "channels = { Mail = 1 }",
+        Wrong::BadName,
+        Part::Channels,
         1,
         0,
     ),
-    ("[channels.mail]", Wrong::Missing, 1, 1),
-    ("[channels.mail]\nlabel = 1", Wrong::Kind, 1, 1),
-    ("[channels.mail]\nlabel = 'mid'", Wrong::UnknownLabel, 1, 1),
     (
-        "[channels.mail]\nlabel = 'mid'\nfunction = 'help'",
-        Wrong::UnknownLabel,
+        "channels = { a = 1, 'b c' = 1 }",
+        Wrong::Kind,
+        Part::Channels,
+        1,
+        0,
+    ),
+    (
+        "[channels.mail]\ngate = 1",
+        Wrong::Extra,
+        Part::Channels,
+        1,
+        0,
+    ),
+    (
+        "[channels.mail]\nlabel = 1",
+        Wrong::Kind,
+        Part::Channels,
         1,
         1,
     ),
-];
-
-static CLIENTS: [Case; 5] = [
-    ("clients = { Ann = 1 }", Wrong::BadName, 1, 0),
-    ("[clients.Ann]\ngate = 1", Wrong::BadName, 1, 0),
-    ("[clients.zed]\ngate = 1", Wrong::Extra, 1, 0),
+    (
+        "[channels.mail]\nlabel = 'mid'\nfunction = 'help'",
+        Wrong::UnknownLabel,
+        Part::Channels,
+        1,
+        1,
+    ),
+    ("clients = { Ann = 1 }", Wrong::BadName, Part::Clients, 1, 0),
     (
         "[clients.ann]\ngate = 1\nclearance = 'mid'",
         Wrong::Extra,
+        Part::Clients,
         1,
         0,
     ),
     (
         "[clients.carol]\nclearance = 'mid'\n[clients.ann]",
         Wrong::Missing,
+        Part::Clients,
         1,
         1,
     ),
@@ -179,14 +135,13 @@ fn the_steps_come_in_their_order(rt: HostRuntime) -> Result<(), Fail> {
 }
 
 #[test]
-fn the_lattice_comes_after_the_flows_and_before_the_limits(rt: HostRuntime) -> Result<(), Fail> {
-    let label = Label::numbered;
-    let cases = [
+fn the_lattice_comes_after_the_flows_and_before_the_limits(rt: HostRuntime) {
+    let no_join = LatticeError::NoJoin(Label::numbered(0), Label::numbered(1));
+    for (text, want) in [
         (
             "labels = []\nflows = [['low', 'top']]",
             LatticeError::NoLabels,
         ),
-        ("labels = ['low', 'low', 'Top']", LatticeError::Repeated(1)),
         ("labels = ['Top', 'low', 'low']", LatticeError::BadName(0)),
         (
             "labels = ['low', 'low']\nflows = [['up', 'low']]",
@@ -197,23 +152,13 @@ fn the_lattice_comes_after_the_flows_and_before_the_limits(rt: HostRuntime) -> R
             LatticeError::UnknownLabel(2),
         ),
         (
-            "labels = ['a', 'b', 'c', 'd']\nflows = [['c', 'd'], ['d', 'c']]",
-            LatticeError::Cycle(label(2), label(3)),
-        ),
-        (
-            "labels = ['a', 'b', 't', 'x']\nflows = [['a', 't'], ['b', 't']]",
-            LatticeError::NoJoin(label(0), label(3)),
-        ),
-        (
             "labels = ['low', 'low']\nlimits = 1",
             LatticeError::Repeated(1),
         ),
-        (
-            "labels = ['a', 'b']\nclients = 1",
-            LatticeError::NoJoin(label(0), label(1)),
-        ),
-    ];
-    have_lattice_faults(&rt, rt.alloc(), &cases)
+        ("labels = ['a', 'b']\nclients = 1", no_join),
+    ] {
+        has_fault(&rt, rt.alloc(), text, Some(PolicyError::Lattice(want)));
+    }
 }
 
 #[test]
@@ -223,21 +168,11 @@ fn faults_of_the_limits_come_by_row_and_then_by_field(rt: HostRuntime) -> Result
 
 #[test]
 fn a_function_with_a_bad_name_comes_before_its_file(rt: HostRuntime) -> Result<(), Fail> {
-    have_their_faults(
-        &rt,
-        rt.alloc(),
-        "labels = ['low']\n",
-        Part::Functions,
-        &FUNCTIONS,
-    )
+    let head = "labels = ['low']\n";
+    have_their_faults(&rt, rt.alloc(), head, Part::Functions, &FUNCTIONS)
 }
 
 #[test]
-fn faults_of_a_channel_come_in_their_order(rt: HostRuntime) -> Result<(), Fail> {
-    have_their_faults(&rt, rt.alloc(), HEAD, Part::Channels, &CHANNELS)
-}
-
-#[test]
-fn faults_of_a_client_come_in_their_order(rt: HostRuntime) -> Result<(), Fail> {
-    have_their_faults(&rt, rt.alloc(), HEAD, Part::Clients, &CLIENTS)
+fn faults_of_a_channel_and_of_a_client_come_in_their_order(rt: HostRuntime) -> Result<(), Fail> {
+    have_first_faults(&rt, rt.alloc(), HEAD, &CHANNELS_AND_CLIENTS)
 }

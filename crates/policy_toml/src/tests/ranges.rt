@@ -1,19 +1,45 @@
 //! The ends of ranges: limits, and the lengths of names and of file names.
 
-use super::{Wrong, fault, fault_of};
-use crate::{Part, Place, PolicyError, read_policy};
+use super::{Case, Wrong, fault, has_fault, have_their_faults, joined, policy_of};
+use crate::{Part, Place};
 use label_limits::Limits;
 use std::alloc::Global;
+use std::process::Abort;
 use std::test::Fail;
 
-/// The key of a limit, its item, and the least and the greatest number.
-static RANGES: [(&str, u32, i64, i64); 6] = [
-    ("quantum", 1, 1, 1_000_000),
-    ("fuel", 2, 1, 1_000_000_000),
-    ("pages", 3, 0, 65_536),
-    ("queue", 4, 1, 65_536),
-    ("facets", 5, 0, 1_000_000),
-    ("bytes", 6, 0, 1_073_741_824),
+/// Two labels, and the limits of the second.
+const TOP: &str = "labels = ['low', 'top']\nflows = [['low', 'top']]\n[limits.top]\n";
+
+/// Below the least number of each limit, and above the greatest.
+static OUTSIDE: [Case; 12] = [
+    ("quantum = 0", Wrong::OutOfRange, 1, 1),
+    ("quantum = 1000001", Wrong::OutOfRange, 1, 1),
+    ("fuel = 0", Wrong::OutOfRange, 1, 2),
+    ("fuel = 1000000001", Wrong::OutOfRange, 1, 2),
+    ("pages = -1", Wrong::OutOfRange, 1, 3),
+    ("pages = 65537", Wrong::OutOfRange, 1, 3),
+    ("queue = 0", Wrong::OutOfRange, 1, 4),
+    ("queue = 65537", Wrong::OutOfRange, 1, 4),
+    ("facets = -1", Wrong::OutOfRange, 1, 5),
+    ("facets = 1000001", Wrong::OutOfRange, 1, 5),
+    ("bytes = -1", Wrong::OutOfRange, 1, 6),
+    ("bytes = 1073741825", Wrong::OutOfRange, 1, 6),
+];
+
+/// The least number of each limit, and the greatest: the text, the item and the number.
+static INSIDE: [(&str, u32, u32); 12] = [
+    ("quantum = 1", 1, 1),
+    ("quantum = 1000000", 1, 1_000_000),
+    ("fuel = 1", 2, 1),
+    ("fuel = 1000000000", 2, 1_000_000_000),
+    ("pages = 0", 3, 0),
+    ("pages = 65536", 3, 65_536),
+    ("queue = 1", 4, 1),
+    ("queue = 65536", 4, 65_536),
+    ("facets = 0", 5, 0),
+    ("facets = 1000000", 5, 1_000_000),
+    ("bytes = 0", 6, 0),
+    ("bytes = 1073741824", 6, 1_073_741_824),
 ];
 
 /// The usual limits with another number in the place of one.
@@ -37,49 +63,24 @@ fn limits_with(item: u32, number: u32) -> Limits {
     limits
 }
 
-/// The limits of the second label where one limit of it is written.
-fn limits_read(alloc: Global, key: &str, number: i64) -> Result<Option<Limits>, PolicyError> {
-    let text = format!(in alloc;
-        "labels = ['low', 'top']\nflows = [['low', 'top']]\n[limits.top]\n{key} = {number}"
-    );
-    let Ok(text) = text else {
-        return Err(PolicyError::NoMemory);
-    };
-    let policy = read_policy(alloc, text.as_bytes())?;
-    Ok(policy.limits().get(1).copied())
+/// The text is a policy whose second label has these limits.
+fn has_limits(rt: &impl Abort, alloc: Global, text: &str, want: Limits) {
+    let policy = policy_of(rt, alloc, text);
+    assert_eq!(rt; policy.limits().get(1).copied(), Some(want), "{text}");
 }
 
 #[test]
-fn a_limit_lies_between_two_numbers(rt: HostRuntime) {
-    for (key, item, least, greatest) in RANGES.iter() {
-        let outside = PolicyError::OutOfRange(Place {
-            part: Part::Limits,
-            row: 1,
-            item: *item,
-        });
-        assert_eq!(rt;
-            limits_read(rt.alloc(), key, *least - 1),
-            Err(outside),
-            "{key}"
-        );
-        assert_eq!(rt;
-            limits_read(rt.alloc(), key, *greatest + 1),
-            Err(outside),
-            "{key}"
-        );
-        let with_least = limits_with(*item, *least as u32);
-        assert_eq!(rt;
-            limits_read(rt.alloc(), key, *least),
-            Ok(Some(with_least)),
-            "{key}"
-        );
-        let with_greatest = limits_with(*item, *greatest as u32);
-        assert_eq!(rt;
-            limits_read(rt.alloc(), key, *greatest),
-            Ok(Some(with_greatest)),
-            "{key}"
-        );
+fn a_limit_outside_its_range_is_refused(rt: HostRuntime) -> Result<(), Fail> {
+    have_their_faults(&rt, rt.alloc(), TOP, Part::Limits, &OUTSIDE)
+}
+
+#[test]
+fn a_limit_may_lie_at_either_end_of_its_range(rt: HostRuntime) -> Result<(), Fail> {
+    for (text, item, number) in &INSIDE {
+        let text = joined(rt.alloc(), TOP, text)?;
+        has_limits(&rt, rt.alloc(), text.as_str(), limits_with(*item, *number));
     }
+    Ok(())
 }
 
 /// So many times the same text.
@@ -91,45 +92,33 @@ fn repeated(alloc: Global, text: &str, count: usize) -> Result<String, Fail> {
     Ok(all)
 }
 
+/// A policy of one label and one function with this name and this file.
+fn with_function(alloc: Global, name: &str, file: &str) -> Result<String, Fail> {
+    Ok(format!(in alloc; "labels = ['low']\nfunctions.{name} = '{file}'")?)
+}
+
 /// A name of a text so many times, a file name of another, and what is wrong with the function.
-static LENGTHS: [(&str, usize, &str, usize, Option<Wrong>); 11] = [
+static LENGTHS: [(&str, usize, &str, usize, Option<Wrong>); 9] = [
     ("n", 64, "e", 1, None),
     ("n", 65, "e", 1, Some(Wrong::BadName)),
     ("''", 1, "e", 1, Some(Wrong::BadName)),
-    ("0", 1, "e", 1, None),
-    ("'a_b-c.9'", 1, "e", 1, None),
+    ("'0_b-c.9'", 1, "e", 1, None),
     ("hello", 1, "e", 0, Some(Wrong::OutOfRange)),
-    ("hello", 1, "e", 1, None),
     ("hello", 1, "e", 255, None),
     ("hello", 1, "e", 256, Some(Wrong::OutOfRange)),
     ("hello", 1, "\u{e9}", 127, None),
     ("hello", 1, "\u{e9}", 128, Some(Wrong::OutOfRange)),
 ];
 
-/// The fault of a function.
-fn function_fault(wrong: Option<Wrong>) -> Option<PolicyError> {
-    let place = Place {
-        part: Part::Functions,
-        row: 1,
-        item: 0,
-    };
-    match wrong {
-        Some(wrong) => Some(fault(wrong, place)),
-        None => None,
-    }
-}
-
 #[test]
 fn names_have_1_to_64_bytes_and_file_names_1_to_255(rt: HostRuntime) -> Result<(), Fail> {
+    let place = Place::row(Part::Functions, 1);
     for (name, names, file, files, wrong) in &LENGTHS {
         let name = repeated(rt.alloc(), name, *names)?;
         let file = repeated(rt.alloc(), file, *files)?;
-        let text = format!(in rt.alloc(); "labels = ['low']\nfunctions.{name} = '{file}'")?;
-        assert_eq!(rt;
-            fault_of(rt.alloc(), text.as_str()),
-            function_fault(*wrong),
-            "{text}"
-        );
+        let text = with_function(rt.alloc(), name.as_str(), file.as_str())?;
+        let want = wrong.map(|wrong| fault(wrong, place));
+        has_fault(&rt, rt.alloc(), text.as_str(), want);
     }
     Ok(())
 }

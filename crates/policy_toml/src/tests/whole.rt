@@ -1,8 +1,8 @@
 //! Policies that are read, reader by reader.
 
-use super::{DIAMOND, Placed, Wrong, have_first_faults};
-use crate::{Part, Policy, read_policy};
-use label_lattice::Label;
+use super::{DIAMOND, Placed, Wrong, have_first_faults, joined, policy_of};
+use crate::{Part, Policy};
+use label_lattice::{Label, Lattice};
 use label_limits::Limits;
 use labelled_channel::Delivery;
 use std::alloc::Global;
@@ -56,91 +56,94 @@ const USUAL: Limits = Limits {
 
 /// The policy of the four labels with the rest.
 fn read(rt: &impl Abort, alloc: Global, rest: &str) -> Result<Policy, Fail> {
-    let text = format!(in alloc; "{DIAMOND}{rest}")?;
-    Ok(read_policy(alloc, text.as_bytes()).expect(rt, "a policy"))
+    let text = joined(alloc, DIAMOND, rest)?;
+    Ok(policy_of(rt, alloc, text.as_str()))
+}
+
+/// The function with this number has this name and this file.
+fn has_function(rt: &impl Abort, policy: &Policy, number: u32, name: &str, file: &str) {
+    let place = number as usize;
+    assert!(rt; place < policy.functions().len());
+    assert_eq!(rt; policy.functions()[place].as_bytes(), name.as_bytes());
+    assert_eq!(rt; policy.function_file(number), file);
 }
 
 fn has_the_functions(rt: &impl Abort, policy: &Policy) {
-    let functions = [
-        ("hello", "echo.wasm"),
-        ("lift", "lift.wasm"),
-        ("look", "look.wasm"),
-        ("spin", "spin.wasm"),
-        ("store", "store.wasm"),
-        ("twin", "twin.wasm"),
-    ];
     assert_eq!(rt; policy.functions().len(), 6);
-    let mut number: u32 = 0;
-    for (name, file) in functions {
-        assert!(rt; (number as usize) < policy.functions().len());
-        assert_eq!(rt;
-            policy.functions()[number as usize].as_bytes(),
-            name.as_bytes()
-        );
-        assert_eq!(rt; policy.function_file(number), file);
-        number = number.saturating_add(1);
+    for (number, name, file) in [
+        (0, "hello", "echo.wasm"),
+        (1, "lift", "lift.wasm"),
+        (2, "look", "look.wasm"),
+        (3, "spin", "spin.wasm"),
+        (4, "store", "store.wasm"),
+        (5, "twin", "twin.wasm"),
+    ] {
+        has_function(rt, policy, number, name, file);
     }
+}
+
+/// The client with this number has this name and this clearance.
+fn has_client(rt: &impl Abort, policy: &Policy, number: u32, name: &str, clearance: u8) {
+    let place = number as usize;
+    assert!(rt; place < policy.clients().len());
+    assert_eq!(rt; policy.clients()[place].as_bytes(), name.as_bytes());
+    assert_eq!(rt; policy.clearance(number), Label::numbered(clearance));
 }
 
 fn has_the_clients(rt: &impl Abort, policy: &Policy) {
-    let clients = [("ann", 1), ("carol", 0), ("sam", 3)];
     assert_eq!(rt; policy.clients().len(), 3);
-    let mut number: u32 = 0;
-    for (name, clearance) in clients {
-        assert!(rt; (number as usize) < policy.clients().len());
-        assert_eq!(rt;
-            policy.clients()[number as usize].as_bytes(),
-            name.as_bytes()
-        );
-        assert_eq!(rt; policy.clearance(number), Label::numbered(clearance));
-        number = number.saturating_add(1);
+    has_client(rt, policy, 0, "ann", 1);
+    has_client(rt, policy, 1, "carol", 0);
+    has_client(rt, policy, 2, "sam", 3);
+}
+
+/// The label with this number has this name, and flows to the labels whose place has an x.
+fn has_label(rt: &impl Abort, lattice: &Lattice, number: u8, name: &str, flows: &[u8]) {
+    let label = Label::numbered(number);
+    assert_eq!(rt; lattice.find(name.as_bytes()), Some(label));
+    assert!(rt; number < lattice.count());
+    for to in 0..lattice.count() {
+        let found = lattice.flows(label, Label::numbered(to));
+        assert_eq!(rt; found, flows.get(to as usize) == Some(&b'x'));
     }
 }
 
-fn has_the_lattice(rt: &impl Abort, policy: &Policy) {
-    let lattice = policy.lattice();
-    let names = ["low", "alice", "bob", "top"];
-    let flows = ["xxxx", ".x.x", "..xx", "...x"];
+fn has_the_lattice(rt: &impl Abort, lattice: &Lattice) {
     assert_eq!(rt; lattice.count(), 4);
-    for a in 0..4 {
-        for b in 0..4 {
-            let from = Label::numbered(a);
-            let to = Label::numbered(b);
-            assert_eq!(rt;
-                lattice.flows(from, to),
-                flows[a as usize].as_bytes()[b as usize] == b'x'
-            );
-        }
-        assert_eq!(rt;
-            lattice.find(names[a as usize].as_bytes()),
-            Some(Label::numbered(a))
-        );
-    }
+    has_label(rt, lattice, 0, "low", b"xxxx");
+    has_label(rt, lattice, 1, "alice", b".x.x");
+    has_label(rt, lattice, 2, "bob", b"..xx");
+    has_label(rt, lattice, 3, "top", b"...x");
 }
 
-/// What becomes of a message from a label into a channel.
-fn delivered(rt: &impl Abort, policy: &Policy, from: u8, channel: &str) -> Delivery {
+/// A message from a label into a channel comes to this.
+fn delivers(rt: &impl Abort, policy: &Policy, from: u8, channel: &str, want: Delivery) {
     let lattice = policy.lattice();
     assert!(rt; from < lattice.count());
-    policy
-        .channels()
-        .deliver(lattice, Label::numbered(from), channel.as_bytes())
+    let from = Label::numbered(from);
+    let found = policy.channels().deliver(lattice, from, channel.as_bytes());
+    assert_eq!(rt; found, want, "{channel}");
 }
 
 fn has_the_channel(rt: &impl Abort, policy: &Policy) {
     let start = Delivery::Start(Label::numbered(3), 0);
     assert_eq!(rt; policy.channels().count(), 1);
-    assert_eq!(rt; delivered(rt, policy, 0, "mail"), start);
-    assert_eq!(rt; delivered(rt, policy, 3, "mail"), start);
-    assert_eq!(rt; delivered(rt, policy, 0, "hello"), Delivery::Unknown);
+    delivers(rt, policy, 0, "mail", start);
+    delivers(rt, policy, 3, "mail", start);
+    delivers(rt, policy, 0, "hello", Delivery::Unknown);
+}
+
+/// The limits are the usual ones, but for the last two of four labels.
+fn has_limits(rt: &impl Abort, policy: &Policy, bob: Limits, top: Limits) {
+    assert_eq!(rt; policy.limits(), [USUAL, USUAL, bob, top].as_slice());
 }
 
 fn is_the_policy(rt: &impl Abort, policy: &Policy) {
-    has_the_lattice(rt, policy);
+    has_the_lattice(rt, policy.lattice());
     has_the_functions(rt, policy);
     has_the_clients(rt, policy);
     has_the_channel(rt, policy);
-    assert_eq!(rt; policy.limits(), [USUAL, USUAL, USUAL, USUAL].as_slice());
+    has_limits(rt, policy, USUAL, USUAL);
 }
 
 #[test]
@@ -177,28 +180,25 @@ fn limits_that_are_written_take_the_place_of_the_usual_ones(rt: HostRuntime) -> 
         facets: 100_000,
         bytes: 67_108_864,
     };
-    assert_eq!(rt; policy.limits(), [USUAL, USUAL, bob, top].as_slice());
+    has_limits(&rt, &policy, bob, top);
     Ok(())
+}
+
+fn has_labels_alone(rt: &impl Abort, policy: &Policy) {
+    let low = Label::numbered(0);
+    assert_eq!(rt; policy.functions().len(), 0);
+    assert_eq!(rt; policy.clients().len(), 0);
+    assert_eq!(rt; policy.channels().count(), 0);
+    assert!(rt; !policy.gates().has(low, low, 0));
+    has_limits(rt, policy, USUAL, USUAL);
 }
 
 #[test]
 fn parts_that_are_not_written_are_empty(rt: HostRuntime) -> Result<(), Fail> {
-    let rests = [
-        "",
-        "limits = {}\nfunctions = {}\nchannels = {}\nclients = {}\ngates = {}",
-        "[functions]",
-    ];
-    for rest in rests {
+    let empty = "limits = {}\nfunctions = {}\nchannels = {}\nclients = {}\ngates = {}";
+    for rest in ["", empty, "[functions]"] {
         let policy = read(&rt, rt.alloc(), rest)?;
-        assert_eq!(rt; policy.functions().len(), 0);
-        assert_eq!(rt; policy.clients().len(), 0);
-        assert_eq!(rt; policy.channels().count(), 0);
-        assert!(rt;
-            !policy
-                .gates()
-                .has(Label::numbered(0), Label::numbered(0), 0)
-        );
-        assert_eq!(rt; policy.limits(), [USUAL, USUAL, USUAL, USUAL].as_slice());
+        has_labels_alone(&rt, &policy);
     }
     Ok(())
 }
@@ -213,12 +213,11 @@ a2 = { label = 'bob', function = 'f2' }
 a10 = { label = 'low', function = 'f10' }
 ";
     let policy = read(&rt, rt.alloc(), rest)?;
-    let cases = [("first", 1, 0), ("a10", 0, 2), ("a2", 2, 3), ("last", 0, 4)];
-    for (channel, at, function) in cases {
+    for (channel, at, function) in [("first", 1, 0), ("a10", 0, 2), ("a2", 2, 3), ("last", 0, 4)] {
         let want = Delivery::Start(Label::numbered(at), function);
-        assert_eq!(rt; delivered(&rt, &policy, 0, channel), want, "{channel}");
+        delivers(&rt, &policy, 0, channel, want);
     }
-    assert_eq!(rt; delivered(&rt, &policy, 1, "last"), Delivery::Vanishes);
+    delivers(&rt, &policy, 1, "last", Delivery::Vanishes);
     Ok(())
 }
 
@@ -233,10 +232,10 @@ static FAULTS: [Placed; 3] = [
         4,
     ),
     (
-        "[clients]\nzed = {}\nann = { clearance = 'low' }\nsam = { clearance = 'top' }\nbo = { clearance = 'low' }\n",
+        "[clients]\nzed = {}\nann = { clearance = 'low' }\nsam = { clearance = 'top' }\n",
         Wrong::Missing,
         Part::Clients,
-        4,
+        3,
         1,
     ),
 ];
