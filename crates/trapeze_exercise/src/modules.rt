@@ -1,8 +1,7 @@
 //! The modules of the exercise.
 
-ghost use Rattle.std.specs.Prelude.{◌≡◌, ◌≤◌, length, IfOk};
+ghost use Rattle.std.specs.Prelude.{◌≡◌, ◌≤◌, ◌++◌, [], ◌∷◌, length, IfOk, OnOk};
 ghost use Rattle.wasm_ast.specs.declared.modules.Module.{Module as Program};
-ghost use Rattle.wasm_ast.specs.TestModules.{echo, lift, look, spin, store, twin};
 ghost use Rattle.wasm_ast.specs.Validity.{Valid, IsSmall};
 ghost use Rattle.wasm_decode.specs.Grammar.{Spells};
 ghost use Rattle.trapeze_exercise.specs.BuiltIn.{built_in_modules, SpellValid};
@@ -51,68 +50,29 @@ impl Modules {
 pub fn built_in_modules(alloc: Global) -> Result<Modules, NoMemory>
     ensures { IfOk result (λ modules. modules ≡ built_in_modules) }
 {
-    let (echo, lift, look) = first_three(alloc)?;
-    let (spin, store, twin) = last_three(alloc)?;
-    match Vec::from_array(alloc, [echo, lift, look, spin, store, twin]) {
-        Ok(modules) => Ok(Modules { modules }),
+    let mut modules = Modules {
+        modules: Vec::new(alloc),
+    };
+    add(alloc, &mut modules, ECHO)?;
+    add(alloc, &mut modules, LIFT)?;
+    add(alloc, &mut modules, LOOK)?;
+    add(alloc, &mut modules, SPIN)?;
+    add(alloc, &mut modules, STORE)?;
+    add(alloc, &mut modules, TWIN)?;
+    Ok(modules)
+}
+
+/// Adds the valid module that the bytes spell.
+fn add(alloc: Global, modules: &mut Modules, bytes: &[u8]) -> Result<(), NoMemory>
+    requires few { length bytes.now ≤ 4194304 }
+    requires spelled { SpellValid bytes.now }
+    ensures { (m : Program) → Spells m bytes.now → OnOk result (modules.new ≡ modules.old ++ m ∷ []) }
+{
+    let module = read(alloc, bytes)?;
+    match modules.modules.push(module) {
+        Ok(()) => Ok(()),
         Err(_) => Err(NoMemory),
     }
-}
-
-/// The modules of the first three functions.
-fn first_three(alloc: Global) -> Result<(ValidModule, ValidModule, ValidModule), NoMemory>
-    ensures { IfOk result (λ modules. modules ≡ (echo, lift, look)) }
-{
-    let echo = echo(alloc)?;
-    let lift = lift(alloc)?;
-    let look = look(alloc)?;
-    Ok((echo, lift, look))
-}
-
-/// The modules of the last three functions.
-fn last_three(alloc: Global) -> Result<(ValidModule, ValidModule, ValidModule), NoMemory>
-    ensures { IfOk result (λ modules. modules ≡ (spin, store, twin)) }
-{
-    let spin = spin(alloc)?;
-    let store = store(alloc)?;
-    let twin = twin(alloc)?;
-    Ok((spin, store, twin))
-}
-
-fn echo(alloc: Global) -> Result<ValidModule, NoMemory>
-    ensures { IfOk result (λ valid. valid ≡ echo) }
-{
-    read(alloc, ECHO)
-}
-
-fn lift(alloc: Global) -> Result<ValidModule, NoMemory>
-    ensures { IfOk result (λ valid. valid ≡ lift) }
-{
-    read(alloc, LIFT)
-}
-
-fn look(alloc: Global) -> Result<ValidModule, NoMemory>
-    ensures { IfOk result (λ valid. valid ≡ look) }
-{
-    read(alloc, LOOK)
-}
-
-fn spin(alloc: Global) -> Result<ValidModule, NoMemory>
-    ensures { IfOk result (λ valid. valid ≡ spin) }
-{
-    read(alloc, SPIN)
-}
-
-fn store(alloc: Global) -> Result<ValidModule, NoMemory>
-    ensures { IfOk result (λ valid. valid ≡ store) }
-{
-    read(alloc, STORE)
-}
-
-fn twin(alloc: Global) -> Result<ValidModule, NoMemory>
-    ensures { IfOk result (λ valid. valid ≡ twin) }
-{
-    read(alloc, TWIN)
 }
 
 /// The valid module that the bytes spell.

@@ -207,7 +207,7 @@ fn before_a_bad_line_the_events_are_played_without_their_facets(
             "",
             "events line 1: unknown-function\n",
         ),
-        ("ask low carol hello R1 x\n", "", "events line 1: bad-id\n"),
+        ("ask low carol hello Ann x\n", "", "events line 1: bad-id\n"),
     ] {
         let mut files = held(alloc, FOUR, events)?;
         assert!(rt; ends(alloc, RUN, &mut files, 4, text, error)?, "{events}");
