@@ -21,7 +21,7 @@ abbrev pub IsUnfit : ℕ → Program → Status → Type 0
 IsUnfit function program status =
     (status ≡ NoMemory)
     ⊎ ((told : InvalidFault) × (fault : Fault) × (status ≡ Module function (Invalid told)) × (fault_of told ≡ Some fault)
-      × Invalidity program fault)
+    × Invalidity program fault)
 
 -- the module that they spell, which is valid; their fault; or out of memory
 abbrev pub IsJudged : ℕ → List ℕ → Result Program Status → Type 0
