@@ -115,41 +115,70 @@ fn counted(rt: &impl Abort, alloc: Global) -> Result<ValidModule, Fail> {
     module(rt, alloc, handle, second, None)
 }
 
+/// A worked function ends after so many units and calls, of which this is the last.
+fn asks_last(
+    rt: &impl Abort,
+    alloc: Global,
+    which: Worked,
+    counts: (u64, usize),
+    last: (HostName, [u32; 4]),
+) -> Result<bool, Fail> {
+    let program = alone(rt, alloc, code_of(alloc, which)?)?;
+    let told = played(rt, alloc, &program, 1, 1_000, 1_000)?;
+    let is_counted = told.used == counts.0 && told.asks.len() == counts.1;
+    Ok(is_counted && told.end == End::Done && told.asks.last() == Some(&last))
+}
+
 #[test]
 fn the_worked_functions_ask_the_host(rt: HostRuntime) -> Result<(), Fail> {
+    let alloc = rt.alloc();
     let reply = (HostName::Reply, [16, 3, 0, 0]);
+    let echoed = (HostName::Reply, [0, 3, 0, 0]);
+    let written = (HostName::Write, [0, 1, 16, 3]);
     let sent = (HostName::Send, [0, 4, 16, 3]);
-    let cases = [
-        (Worked::Echo, 6, 2, (HostName::Reply, [0, 3, 0, 0])),
-        (Worked::Lift, 9, 3, reply),
-        (Worked::Look, 8, 2, reply),
-        (Worked::Store, 9, 2, (HostName::Write, [0, 1, 16, 3])),
-        (Worked::Twin, 15, 3, sent),
-    ];
-    for (which, used, asks, last) in cases {
-        let program = alone(&rt, rt.alloc(), code_of(rt.alloc(), which)?)?;
-        let told = played(&rt, rt.alloc(), &program, 1, 1_000, 1_000)?;
-        assert_eq!(rt; (told.used, told.end), (used, End::Done), "{which:?}");
-        assert_eq!(rt; told.asks.len(), asks, "{which:?}");
-        assert!(rt; told.asks.last() == Some(&last), "{which:?}");
-    }
+    assert!(rt; asks_last(&rt, alloc, Worked::Echo, (6, 2), echoed)?);
+    assert!(rt; asks_last(&rt, alloc, Worked::Lift, (9, 3), reply)?);
+    assert!(rt; asks_last(&rt, alloc, Worked::Look, (8, 2), reply)?);
+    assert!(rt; asks_last(&rt, alloc, Worked::Store, (9, 2), written)?);
+    assert!(rt; asks_last(&rt, alloc, Worked::Twin, (15, 3), sent)?);
     Ok(())
+}
+
+/// The thread of the function that counts, told in full.
+fn is_counted(told: &Told) -> bool {
+    told.used == 54
+        && told.end == End::Done
+        && told.asks.as_slice() == [(HostName::Input, [0, 8, 0, 0])].as_slice()
+        && told.memory == *b"\x09\0\0\0ef"
+}
+
+/// Whether that thread ends so, where it is given so many units first, and so many each time after that.
+fn counts_when_cut(
+    rt: &impl Abort,
+    alloc: Global,
+    program: &ValidModule,
+    first: u64,
+    each: u64,
+) -> Result<bool, Fail> {
+    let told = played(rt, alloc, program, 1, first, each)?;
+    Ok(is_counted(&told))
 }
 
 #[test]
 fn a_run_that_is_cut_anywhere_ends_the_same(rt: HostRuntime) -> Result<(), Fail> {
-    let program = counted(&rt, rt.alloc())?;
-    let whole = played(&rt, rt.alloc(), &program, 1, 1_000, 1_000)?;
-    assert_eq!(rt; (whole.used, whole.end), (54, End::Done));
-    assert!(rt; whole.asks.as_slice() == [(HostName::Input, [0, 8, 0, 0])].as_slice());
-    assert_eq!(rt; whole.memory, *b"\x09\0\0\0ef");
-    for cut in 0..whole.used {
-        let parts = played(&rt, rt.alloc(), &program, 1, cut, 1_000)?;
-        assert!(rt; parts == whole, "cut at {cut}");
+    let alloc = rt.alloc();
+    let program = counted(&rt, alloc)?;
+    for cut in 0..55 {
+        assert!(rt;
+            counts_when_cut(&rt, alloc, &program, cut, 1_000)?,
+            "cut at {cut}"
+        );
     }
     for each in 1..6 {
-        let parts = played(&rt, rt.alloc(), &program, 1, each, each)?;
-        assert!(rt; parts == whole, "{each} units a run");
+        assert!(rt;
+            counts_when_cut(&rt, alloc, &program, each, each)?,
+            "{each} units a run"
+        );
     }
     Ok(())
 }
@@ -167,22 +196,23 @@ fn an_endless_loop_uses_all_its_units(rt: HostRuntime) -> Result<(), Fail> {
     Ok(())
 }
 
+/// Whether a function of this trap traps so, after three units.
+fn traps(rt: &impl Abort, alloc: Global, trap: Trap) -> Result<bool, Fail> {
+    let program = alone(rt, alloc, trapping(alloc, trap)?)?;
+    let told = played(rt, alloc, &program, 1, 1_000, 1_000)?;
+    Ok(told.used == 3 && told.end == End::Trapped(trap))
+}
+
 #[test]
 fn each_trap(rt: HostRuntime) -> Result<(), Fail> {
-    let traps = [
-        Trap::Unreachable,
-        Trap::Memory,
-        Trap::Divide,
-        Trap::Overflow,
-        Trap::Table,
-        Trap::Empty,
-        Trap::TypeDiffers,
-    ];
-    for trap in traps {
-        let program = alone(&rt, rt.alloc(), trapping(rt.alloc(), trap)?)?;
-        let told = played(&rt, rt.alloc(), &program, 1, 1_000, 1_000)?;
-        assert_eq!(rt; (told.used, told.end), (3, End::Trapped(trap)));
-    }
+    let alloc = rt.alloc();
+    assert!(rt; traps(&rt, alloc, Trap::Unreachable)?);
+    assert!(rt; traps(&rt, alloc, Trap::Memory)?);
+    assert!(rt; traps(&rt, alloc, Trap::Divide)?);
+    assert!(rt; traps(&rt, alloc, Trap::Overflow)?);
+    assert!(rt; traps(&rt, alloc, Trap::Table)?);
+    assert!(rt; traps(&rt, alloc, Trap::Empty)?);
+    assert!(rt; traps(&rt, alloc, Trap::TypeDiffers)?);
     Ok(())
 }
 
