@@ -16,12 +16,16 @@ pub record SeesLess (f : ℕ → ℕ → Bool) (p o : ℕ) (lines : List Line) :
 
 -- so it is where p flows to o
 abbrev pub SeesOfTheOther : Type 0
-SeesOfTheOther = (order : Order) → IsSound order → (p o : ℕ) → flows order p o ≡ true → (lines : List Line) → SeesLess (flows order) p o lines
+SeesOfTheOther =
+    (order : Order) → IsSound order → (p o : ℕ) → flows order p o ≡ true
+    → (lines : List Line) → SeesLess (flows order) p o lines
 
 -- lines that follow others are seen after them
 abbrev pub GoesByPieces : Type 0
-GoesByPieces = (f : ℕ → ℕ → Bool) (o : ℕ) (lines more : List Line) → visible f o (lines ++ more) ≡ visible f o lines ++ visible f o more
+GoesByPieces =
+    (f : ℕ → ℕ → Bool) (o : ℕ) (lines more : List Line) → visible f o (lines ++ more) ≡ visible f o lines ++ visible f o more
 
 -- of the lines that a run prints the visible ones are those that it prints of the visible ones
 abbrev pub IsPrintedOrSeenFirst : Type 0
-IsPrintedOrSeenFirst = (f : ℕ → ℕ → Bool) (o : ℕ) (lines : List Line) → visible f o (run_kinds lines) ≡ run_kinds (visible f o lines)
+IsPrintedOrSeenFirst =
+    (f : ℕ → ℕ → Bool) (o : ℕ) (lines : List Line) → visible f o (run_kinds lines) ≡ run_kinds (visible f o lines)

@@ -12,8 +12,8 @@ use Rattle.policy_toml.specs.Rows.{Reading}
 use Rattle.policy_toml.specs.Steps.{document_of, root_keys, labels_of, flows_of, lattice_of, limits_of, functions_of, channels_of, clients_of, gates_of}
 use Rattle.policy_toml.specs.Parts.{Parts}
 
--- what a policy file says: labels, flows, limits by label, functions with their files, channels with a label and a function, clients with a label,
--- gates
+-- what a policy file says: labels, flows, limits by label, functions with their files, channels with a label and a function, clients
+-- with a label, gates
 pub record Written : Type 0 where
   pub names : List (List ℕ)
   pub flows : List (List ℕ × List ℕ)
@@ -35,7 +35,15 @@ table_policy root =
     channels_of names (map (λ f. f.0) functions) root >>= (λ channels.
     clients_of names root >>= (λ clients.
     gates_of names (map (λ f. f.0) functions) root >>= (λ gates.
-    Ok (record { names = names; flows = flows; limits = limits; functions = functions; channels = channels; clients = clients; gates = gates }))))))))))
+    Ok (record {
+      names = names;
+      flows = flows;
+      limits = limits;
+      functions = functions;
+      channels = channels;
+      clients = clients;
+      gates = gates;
+    }))))))))))
 
 -- what the bytes say, or their first fault
 abbrev pub policy_of : List ℕ → Reading Written

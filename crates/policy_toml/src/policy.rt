@@ -30,9 +30,11 @@ impl Model for Policy {
 
     ghost Value = { Parts };
 
-    ghost view = { λ p. parts_of p.lattice p.limits.items p.channels p.functions.items p.files.items p.clients.items p.clearances.items p.gates };
+    ghost view = { λ p.
+        parts_of p.lattice p.limits.items p.channels p.functions.items p.files.items p.clients.items p.clearances.items p.gates };
 
-    ghost invariant = { λ p. IsPolicy (parts_of p.lattice p.limits.items p.channels p.functions.items p.files.items p.clients.items p.clearances.items p.gates) };
+    ghost invariant = { λ p. IsPolicy
+        (parts_of p.lattice p.limits.items p.channels p.functions.items p.files.items p.clients.items p.clearances.items p.gates) };
 }
 
 impl Policy {

@@ -56,7 +56,8 @@ pub(crate) fn run_units(
     requires rests { CanGoOn program.now (store_of memory.old.bytes globals.old.items table.now) place places.old values.old.items opens.old }
     ensures maximum { memory.new.maximum ≡ memory.old.maximum }
     ensures within { result.ran.used ≤ count }
-    ensures rests { let thread = thread_at_rest program.now (store_of memory.old.bytes globals.old.items table.now) (place ∷ places.old) values.old.items opens.old in
+    ensures rests { let store = store_of memory.old.bytes globals.old.items table.now in
+        let thread = thread_at_rest program.now store (place ∷ places.old) values.old.items opens.old in
         let store = store_of memory.new.bytes globals.new.items table.now in
         Rests program.now (units program.now pages thread count) store result.place places.new values.new.items opens.new
         result.ran.used result.ran.stop }
