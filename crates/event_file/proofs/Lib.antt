@@ -2,7 +2,7 @@ pub mod Split
 pub mod Within
 pub mod Go
 pub mod Hearing
-pub mod Steps
+pub mod Advancing
 pub mod Due
 pub mod Callers
 pub mod Counts

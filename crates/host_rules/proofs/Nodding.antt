@@ -16,7 +16,7 @@ use Rattle.wasm_semantics.specs.Threads.{Store, Thread, Outcome, Goes, Calls, Do
 use Rattle.wasm_semantics.specs.Begin.{begin}
 use Rattle.wasm_semantics.specs.Units.{unit}
 use Rattle.wasm_semantics.specs.Examples.{level, frame, lone}
-use Rattle.wasm_semantics.proofs.Steps.{taken}
+use Rattle.wasm_semantics.proofs.Written.{taken}
 use Rattle.host_rules.specs.Guests.{Guest}
 use Rattle.host_rules.specs.Modules.{unit_of, guest_of}
 use Rattle.host_rules.specs.States.{Activation, State, Serving, start, count_turn, told, then_lines, then_move}

@@ -1,4 +1,4 @@
--- A memory alone: what each access makes of its bytes, or that the range is not inside (4.4.7, also of Core 2.0).
+-- A memory alone: what each access makes of its bytes, or that the range is not inside (4.4.4; of Core 2.0, 4.4.7).
 use Rattle.std.specs.Prelude.{ℕ, ◌+◌, Bool, nat_lt, nat_le, if◌then◌else◌, List, length, take, drop, Option, Some, None}
 use Rattle.wasm_ast.specs.Bytes.{placed, loaded, stored, in_pages, grown, copied, filled}
 

@@ -1,4 +1,4 @@
--- What the integer instructions of an opcode take and leave (3.3.1, 3.3.4, 5.4.3, 5.4.5). Operands are listed topmost first.
+-- What the integer instructions of an opcode take and leave (3.3.1, 3.3.4, 5.4.4, 5.4.5). Operands are listed topmost first.
 use Rattle.std.specs.Prelude.{ℕ, Bool, true, false, ◌&&◌, nat_eq, nat_le, if◌then◌else◌, List, [], ◌∷◌, Option, Some, None}
 use Rattle.wasm_ast.specs.declared.val_types.ValType.{ValType}
 use Rattle.wasm_ast.specs.declared.val_types.ValType.TheVariants.{I32, I64, F32, F64}

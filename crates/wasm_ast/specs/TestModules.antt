@@ -60,8 +60,8 @@ abbrev pub one_page : MemoryType
 one_page = record { minimum = 1; maximum = None }
 
 -- a module of these imports and of one function of the type with this number, which is `handle`; it has a memory of one page
-abbrev pub module_of : List FuncType → List Import → ℕ → List Piece → Body → Module
-module_of types imports k pieces b = record {
+abbrev pub module_with : List FuncType → List Import → ℕ → List Piece → Body → Module
+module_with types imports k pieces b = record {
   types = types;
   imports = imports;
   functions = k ∷ [];
@@ -77,7 +77,7 @@ module_of types imports k pieces b = record {
 
 -- a module of these imports whose `handle` does nothing
 abbrev pub idle : List Import → Module
-idle imports = module_of (two_to_one ∷ two_to_none ∷ entry_type ∷ []) imports 2 [] (body [])
+idle imports = module_with (two_to_one ∷ two_to_none ∷ entry_type ∷ []) imports 2 [] (body [])
 
 -- it replies with its input: reply(0, input(0, 65536))
 abbrev pub echo_code : List Instr
@@ -85,7 +85,7 @@ echo_code = V.I32Const 0 ∷ V.I32Const 0 ∷ V.I32Const 65536 ∷ V.Call 0 ∷ 
 
 -- the module of this code
 abbrev pub echo : Module
-echo = module_of (two_to_one ∷ two_to_none ∷ entry_type ∷ []) (host_import (codes "input") 0 ∷ host_import (codes "reply") 1 ∷ [])
+echo = module_with (two_to_one ∷ two_to_none ∷ entry_type ∷ []) (host_import (codes "input") 0 ∷ host_import (codes "reply") 1 ∷ [])
     2 [] (body echo_code)
 
 -- the same with a table, 17 pages, a global that can be set and an exported memory
@@ -104,7 +104,7 @@ lift_code =
 
 -- the module of this code
 abbrev pub lift : Module
-lift = module_of (two_to_one ∷ two_to_none ∷ entry_type ∷ [])
+lift = module_with (two_to_one ∷ two_to_none ∷ entry_type ∷ [])
     (host_import (codes "input") 0 ∷ host_import (codes "raise") 1 ∷ host_import (codes "reply") 1 ∷ [])
     2 (piece_at_0 (codes "alice") ∷ []) (body lift_code)
 
@@ -115,7 +115,7 @@ look_code =
 
 -- the module of this code
 abbrev pub look : Module
-look = module_of (four_to_one ∷ two_to_none ∷ entry_type ∷ []) (host_import (codes "read") 0 ∷ host_import (codes "reply") 1 ∷ [])
+look = module_with (four_to_one ∷ two_to_none ∷ entry_type ∷ []) (host_import (codes "read") 0 ∷ host_import (codes "reply") 1 ∷ [])
     2 (piece_at_0 (codes "k") ∷ []) (body look_code)
 
 -- an endless loop
@@ -124,7 +124,7 @@ spin_code = V.Loop None (sequence (V.Br 0 ∷ [])) ∷ []
 
 -- the module of this code, without a memory
 abbrev pub spin : Module
-spin = record (module_of (entry_type ∷ []) [] 0 [] (body spin_code)) { memories = [] }
+spin = record (module_with (entry_type ∷ []) [] 0 [] (body spin_code)) { memories = [] }
 
 -- it writes its input under the key `k`: write(0, 1, 16, input(16, 1024)), and drops the answer
 abbrev pub store_code : List Instr
@@ -133,7 +133,7 @@ store_code =
 
 -- the module of this code
 abbrev pub store : Module
-store = module_of (two_to_one ∷ four_to_one ∷ entry_type ∷ []) (host_import (codes "input") 0 ∷ host_import (codes "write") 1 ∷ [])
+store = module_with (two_to_one ∷ four_to_one ∷ entry_type ∷ []) (host_import (codes "input") 0 ∷ host_import (codes "write") 1 ∷ [])
     2 (piece_at_0 (codes "k") ∷ []) (body store_code)
 
 -- it sends its input twice into the channel `mail`
@@ -145,7 +145,7 @@ twin_code =
 
 -- the module of this code, with one local
 abbrev pub twin : Module
-twin = module_of (two_to_one ∷ four_to_none ∷ entry_type ∷ []) (host_import (codes "input") 0 ∷ host_import (codes "send") 1 ∷ [])
+twin = module_with (two_to_one ∷ four_to_none ∷ entry_type ∷ []) (host_import (codes "input") 0 ∷ host_import (codes "send") 1 ∷ [])
     2 (piece_at_0 (codes "mail") ∷ []) (record { locals = I32 ∷ []; code = sequence twin_code })
 
 -- the endless loop's module with a float in place of the loop
@@ -162,7 +162,7 @@ fill_code =
 
 -- the module of this code
 abbrev pub fill : Module
-fill = module_of (two_to_none ∷ entry_type ∷ []) (host_import (codes "reply") 0 ∷ []) 1 [] (body fill_code)
+fill = module_with (two_to_none ∷ entry_type ∷ []) (host_import (codes "reply") 0 ∷ []) 1 [] (body fill_code)
 
 -- it releases its input through the gate `g`: release(0, 1, 16, input(16, 1024))
 abbrev pub give_code : List Instr
@@ -171,5 +171,5 @@ give_code =
 
 -- the module of this code
 abbrev pub give : Module
-give = module_of (two_to_one ∷ four_to_none ∷ entry_type ∷ []) (host_import (codes "input") 0 ∷ host_import (codes "release") 1 ∷ [])
+give = module_with (two_to_one ∷ four_to_none ∷ entry_type ∷ []) (host_import (codes "input") 0 ∷ host_import (codes "release") 1 ∷ [])
     2 (piece_at_0 (codes "g") ∷ []) (body give_code)

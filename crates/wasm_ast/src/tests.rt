@@ -79,7 +79,7 @@ fn reads_a_data_segment(rt: HostRuntime) -> Result<(), Fail> {
     Ok(())
 }
 
-fn module_of(alloc: Global, body: Body) -> Result<Module, Fail> {
+fn module_with(alloc: Global, body: Body) -> Result<Module, Fail> {
     Ok(Module::new(
         Vec::new(alloc),
         Vec::new(alloc),
@@ -98,7 +98,7 @@ fn module_of(alloc: Global, body: Body) -> Result<Module, Fail> {
 #[test]
 fn reads_a_module(rt: HostRuntime) -> Result<(), Fail> {
     let body = Body::new(vec![in rt.alloc(); ValType::I32]?, constant(rt.alloc(), 1)?);
-    let module = module_of(rt.alloc(), body)?;
+    let module = module_with(rt.alloc(), body)?;
     assert!(rt;
         module.types().is_empty() && module.imports().is_empty() && module.functions().is_empty()
     );

@@ -37,7 +37,7 @@ Advances next new (Ok t) = next ≡ Ok (state new)
 Advances next new (Err e) = Stops e next
 
 -- the reader goes on, or has the whole expression (true), or stops
-abbrev pub Steps : Result Next DecodeError → Reader → Result Bool DecodeError → Type 0
-Steps next new (Ok false) = next ≡ Ok (state new)
-Steps next new (Ok true) = next ≡ Ok (Whole new.items (place new.input))
-Steps next new (Err e) = Stops e next
+abbrev pub AdvancesOrEnds : Result Next DecodeError → Reader → Result Bool DecodeError → Type 0
+AdvancesOrEnds next new (Ok false) = next ≡ Ok (state new)
+AdvancesOrEnds next new (Ok true) = next ≡ Ok (Whole new.items (place new.input))
+AdvancesOrEnds next new (Err e) = Stops e next

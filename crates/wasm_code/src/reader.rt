@@ -1,7 +1,7 @@
 //! Expressions, an opcode at a time, with the blocks that are open on a stack.
 
 ghost use Rattle.std.specs.Prelude.{◌≡◌, [], ◌∷◌, ◌++◌, OnOk, Ok};
-ghost use Rattle.wasm_code.specs.Answers.{place, Gives, state, Advances, Steps};
+ghost use Rattle.wasm_code.specs.Answers.{place, Gives, state, Advances, AdvancesOrEnds};
 ghost use Rattle.wasm_code.specs.Reading as reading;
 
 use crate::error::DecodeError;
@@ -84,7 +84,7 @@ impl<'a> Reader<'a> {
     /// One opcode, with its immediates. Tells whether it ended the expression.
     #[tactic(auto, unfolding(crate::specs::Reading::step))]
     fn step(&mut self) -> Result<bool, DecodeError>
-        ensures { Steps (reading.step self.old.frames self.old.items (place self.old.input)) self.new result }
+        ensures { AdvancesOrEnds (reading.step self.old.frames self.old.items (place self.old.input)) self.new result }
     {
         let at = self.input;
         let (opcode, after) = at.byte()?;
@@ -162,7 +162,7 @@ impl<'a> Reader<'a> {
 
     /// Ends the innermost block, or the expression. Tells whether it was the expression.
     fn end(&mut self, after: Input<'a>) -> Result<bool, DecodeError>
-        ensures { Steps (Ok (reading.end self.old.frames self.old.items (place after.entry))) self.new result }
+        ensures { AdvancesOrEnds (Ok (reading.end self.old.frames self.old.items (place after.entry))) self.new result }
     {
         self.input = after;
         let Some(Frame { opened, items }) = self.frames.pop() else {

@@ -10,7 +10,7 @@ use std::test::Fail;
 use wasm_ast::{Body, Export, ExportKind, FuncType, Instr, MemoryType, Module, Octets, Piece, Seq};
 
 /// A module with these memories and data segments, whose `handle` does nothing.
-fn module_of(alloc: Global, memories: Vec<MemoryType>, pieces: Vec<Piece>) -> Result<Module, Fail>
+fn module_with(alloc: Global, memories: Vec<MemoryType>, pieces: Vec<Piece>) -> Result<Module, Fail>
     ensures { IfOk result (λ m. m ≡ idle memories.items pieces.items) }
 {
     let types = vec![in alloc; FuncType::new(Vec::new(alloc), Vec::new(alloc))]?;
@@ -42,7 +42,7 @@ fn piece(alloc: Global, at: u32, bytes: &[u8]) -> Result<Piece, Fail>
 /// A memory of one page without a maximum.
 fn page(alloc: Global) -> Result<Memory, Fail> {
     let one = vec![in alloc; MemoryType::new(1, None)]?;
-    let module = module_of(alloc, one, Vec::new(alloc))?;
+    let module = module_with(alloc, one, Vec::new(alloc))?;
     Ok(Memory::fresh(alloc, &module)?)
 }
 
@@ -52,13 +52,13 @@ fn laid(alloc: Global) -> Result<Memory, Fail> {
     let first = piece(alloc, 4, b"abc")?;
     let second = piece(alloc, 6, b"xy")?;
     let pieces = vec![in alloc; first, second]?;
-    let module = module_of(alloc, two, pieces)?;
+    let module = module_with(alloc, two, pieces)?;
     Ok(Memory::fresh(alloc, &module)?)
 }
 
 /// The memory of a module without one.
 fn none(alloc: Global) -> Result<Memory, Fail> {
-    let module = module_of(alloc, Vec::new(alloc), Vec::new(alloc))?;
+    let module = module_with(alloc, Vec::new(alloc), Vec::new(alloc))?;
     Ok(Memory::fresh(alloc, &module)?)
 }
 

@@ -21,7 +21,7 @@ use Rattle.wasm_semantics.specs.Control.{Spot, first_frame, zeros, opened, call_
 use Rattle.wasm_semantics.specs.Units.{unit, limited, data_of, applied}
 use Rattle.wasm_semantics.specs.OfModule.{Holds, labels_of, IsFrame, IsOf}
 use Rattle.wasm_semantics.specs.Examples.{level, frame, lone, opened_block, ended_block, memory_alone}
-use Rattle.wasm_semantics.proofs.Steps.{taken_at, taken}
+use Rattle.wasm_semantics.proofs.Written.{taken_at, taken}
 use Rattle.wasm_ast.proofs.Worked.{no_operand}
 
 pub chooses_first : (m : Module) (pages : ℕ) (st : Store) (part other : Seq) (rest : List Instr)

@@ -20,7 +20,7 @@ use Rattle.wasm_semantics.specs.Control.{Spot, first_frame, zeros, call, indirec
 use Rattle.wasm_semantics.specs.Units.{act, limited, unit}
 use Rattle.wasm_semantics.specs.Begin.{begin, frame_of, entry_frame}
 use Rattle.wasm_semantics.specs.Examples.{level, frame, lone, poised, passed, block, giving}
-use Rattle.wasm_semantics.proofs.Steps.{taken_at, taken}
+use Rattle.wasm_semantics.proofs.Written.{taken_at, taken}
 
 -- where a thread with one instruction runs behind it
 abbrev pub spot_passed : Store → List ℕ → Spot

@@ -18,7 +18,7 @@ use Rattle.wasm_semantics.proofs.Units.{units_sound}
 use Rattle.wasm_semantics.proofs.Begin.{begin_is_of}
 use Rattle.wasm_ast.specs.TestModules.{echo, echo_code}
 use Rattle.wasm_ast.proofs.Worked.{echo_valid}
-use Rattle.wasm_semantics.proofs.Steps.{taken, one_more}
+use Rattle.wasm_semantics.proofs.Written.{taken, one_more}
 
 -- its threads before each unit
 abbrev second_code : List Instr

@@ -21,7 +21,7 @@ use Rattle.wasm_semantics.specs.Control.{Spot}
 use Rattle.wasm_semantics.specs.Units.{data_of, applied, limited, unit, units, units_from, after_unit, answered}
 use Rattle.wasm_semantics.specs.Begin.{begin}
 use Rattle.wasm_semantics.specs.Examples.{level, frame, lone, memory_alone, fill_asks}
-use Rattle.wasm_semantics.proofs.Steps.{taken_at, taken, one_more}
+use Rattle.wasm_semantics.proofs.Written.{taken_at, taken, one_more}
 
 -- a memory by its first bytes
 abbrev bytes_of : ℕ → ℕ → ℕ → ℕ → ℕ → ℕ → ℕ → ℕ → List ℕ → List ℕ

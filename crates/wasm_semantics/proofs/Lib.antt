@@ -10,7 +10,7 @@ pub mod Tables
 pub mod Begin
 pub mod Reaches
 pub mod Takes
-pub mod Steps
+pub mod Written
 pub mod Echo
 pub mod Spin
 pub mod Cases

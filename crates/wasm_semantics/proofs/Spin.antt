@@ -18,7 +18,7 @@ use Rattle.wasm_semantics.specs.Begin.{begin}
 use Rattle.wasm_semantics.specs.Examples.{spin_store, spin_inside, level, frame, lone}
 use Rattle.wasm_ast.specs.TestModules.{spin, spin_code, sequence}
 use Rattle.wasm_ast.proofs.Derivations.{plainly, followed}
-use Rattle.wasm_semantics.proofs.Steps.{taken, one_more}
+use Rattle.wasm_semantics.proofs.Written.{taken, one_more}
 
 abbrev turn : Instr
 turn = V.Loop None (sequence (V.Br 0 ∷ []))

@@ -88,7 +88,7 @@ impl<T: Drop> Stack<T> {
     ///
     /// # Errors
     ///
-    /// For want of memory: the item is dropped, and the stack stays as it was.
+    /// Out of memory: the item is dropped, and the stack stays as it was.
     pub fn push(&mut self, item: T) -> Result<(), AllocError>
         ensures ok { OnOk result (self.new ≡ item ∷ self.old) }
         ensures err { OnErr result (self.new ≡ self.old) }
@@ -131,7 +131,7 @@ impl<T: Copy + Drop> Stack<T> {
     ///
     /// # Errors
     ///
-    /// For want of memory: the stack stays as it was.
+    /// Out of memory: the stack stays as it was.
     pub fn fill(&mut self, item: T, count: usize) -> Result<(), AllocError>
         ensures ok { OnOk result (self.new ≡ replicate count item ++ self.old) }
         ensures err { OnErr result (self.new ≡ self.old) }

@@ -6,7 +6,7 @@ use wasm_ast::{
 };
 
 /// A module with an imported function of type [i64] to [], one of its own of type [] to [], a table and a memory.
-fn module_of(alloc: Global, body: Body) -> Result<Module, Fail> {
+fn module_with(alloc: Global, body: Body) -> Result<Module, Fail> {
     let types = vec![in alloc;
         FuncType::new(Vec::new(alloc), Vec::new(alloc)),
         FuncType::new(vec![in alloc; ValType::I64]?, Vec::new(alloc)),
@@ -36,7 +36,7 @@ fn module_of(alloc: Global, body: Body) -> Result<Module, Fail> {
 fn tells_whether_a_body_is_typed(rt: HostRuntime) -> Result<(), Fail> {
     let alloc = rt.alloc();
     let nothing = FuncType::new(Vec::new(alloc), Vec::new(alloc));
-    let module = module_of(alloc, Body::new(Vec::new(alloc), Seq::new(Vec::new(alloc))))?;
+    let module = module_with(alloc, Body::new(Vec::new(alloc), Seq::new(Vec::new(alloc))))?;
     let good = vec![in alloc; Instr::MemorySize, Instr::Drop]?;
     let typed = Body::new(Vec::new(alloc), Seq::new(good));
     assert!(rt; nothing.results().is_empty());
@@ -50,7 +50,7 @@ fn tells_whether_a_body_is_typed(rt: HostRuntime) -> Result<(), Fail> {
 #[test]
 fn looks_up_by_index(rt: HostRuntime) -> Result<(), Fail> {
     let alloc = rt.alloc();
-    let module = module_of(alloc, Body::new(Vec::new(alloc), Seq::new(Vec::new(alloc))))?;
+    let module = module_with(alloc, Body::new(Vec::new(alloc), Seq::new(Vec::new(alloc))))?;
     assert_eq!(rt;
         function_type(&module, 0).map_or(9, |t| t.params().len()),
         1

@@ -6,5 +6,5 @@ pub mod Needs
 pub mod Opening
 pub mod Popped
 pub mod Spinning
-pub mod Steps
+pub mod Comes
 pub mod Takes

@@ -1,7 +1,7 @@
 use Rattle.std.proofs.Common.{true, ap}
 use Rattle.event_file.specs.Reader.{Reader}
 use Rattle.event_file.proofs.Go.{completes_entry}
-use Rattle.event_file.proofs.Steps.{within_same}
+use Rattle.event_file.proofs.Advancing.{within_same}
 use Rattle.event_file.proofs.reader.EventReader.finish.Goals as goal
 
 pub returns-in-Ok-Some-clause-entries : goal.returns-in-Ok-Some-clause-entries

@@ -1,4 +1,4 @@
--- The steps of a reader, by the first of the lines kept.
+-- How a reader advances, by the first of the lines kept.
 use Rattle.std.proofs.Common.{◌≡◌, ◌≢◌, ℕ, ◌+◌, ◌<◌, ◌≤◌, List, [], ◌∷◌, ◌++◌, length, None, Some, Ok, Err, inl, inr, refl, sym, ap, ◌∙◌, subst, arith, append_assoc, length-append, add-zero, take, drop}
 use borrow.Author.Tests.{lt-ltb, le-ltb}
 use Rattle.event_file.specs.Known.{Known}
