@@ -2,7 +2,8 @@
 
 ghost use Rattle.std.specs.Prelude.{◌≡◌, ◌<◌, [], ◌∷◌, All, IfOk, OnOk, OnErr, None, Some, IsSome, option_map, if◌then◌else◌};
 ghost use Rattle.std.specs.Option.{option_copied};
-ghost use Rattle.label_lattice.specs.Order.{flows, count};
+ghost use Rattle.label_lattice.specs.Order.{count};
+ghost use Rattle.label_lattice.specs.Reach.{flows};
 ghost use Rattle.facet_list.specs.Rows.{row_after, read_row, member};
 ghost use Rattle.facet_index.specs.Rows.{number_after, is_lesser, IsLeastMember};
 

@@ -1,7 +1,8 @@
 //! Writes and reads that are made one after the other.
 
 ghost use Rattle.std.specs.Prelude.{◌≡◌, [], All, IfOk, OnOk, OnErr, length};
-ghost use Rattle.label_lattice.specs.Order.{flows, count};
+ghost use Rattle.label_lattice.specs.Order.{count};
+ghost use Rattle.label_lattice.specs.Reach.{flows};
 ghost use Rattle.facet_index.specs.Steps.{IsFitStep, rows_step, rows_played, answer_of, answers_of, IsPart};
 
 use facet_list::{Facets, Wrote};

@@ -2,7 +2,8 @@
 
 ghost use Rattle.std.specs.Prelude.{◌≡◌, ◌<◌, Ok, List, length, option_map, IfOk, OnErr, IfSome, if◌then◌else◌};
 ghost use Rattle.std.specs.Option.{option_copied};
-ghost use Rattle.label_lattice.specs.Order.{flows, count};
+ghost use Rattle.label_lattice.specs.Order.{count};
+ghost use Rattle.label_lattice.specs.Reach.{flows};
 ghost use Rattle.label_limits.specs.declared.limits.Limits.{Limits as LabelLimits};
 ghost use Rattle.facet_list.specs.Store.{written};
 ghost use Rattle.facet_list.specs.Rows.{Rows, row_of, rows_after, read_row, IsValue, IsSized, IsStore};

@@ -4,7 +4,8 @@ ghost use Rattle.std.specs.Prelude.{◌≡◌, ◌≢◌, ◌<◌, ◌&&◌, nat
 ghost use Rattle.std.specs.Option.{option_copied};
 ghost use Rattle.std.specs.Cmp.Lexicographic.{pointwise};
 ghost use Rattle.std.specs.declared.cmp.Ordering.TheVariants.{Less};
-ghost use Rattle.label_lattice.specs.Order.{flows, count};
+ghost use Rattle.label_lattice.specs.Order.{count};
+ghost use Rattle.label_lattice.specs.Reach.{flows};
 ghost use Rattle.std.specs.Ordering.{is_eq};
 ghost use Rattle.facet_list.specs.Store.{slot_cmp, written};
 ghost use Rattle.facet_list.specs.Room.{size};

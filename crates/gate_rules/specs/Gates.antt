@@ -4,7 +4,8 @@ use Rattle.std.specs.Int.{w32, to_le_bytes}
 use Rattle.std.specs.Cmp.Lexicographic.{pointwise}
 use Rattle.std.specs.List.{list_any}
 use Rattle.std.specs.Map.{lookup}
-use Rattle.label_lattice.specs.Order.{Order, flows}
+use Rattle.label_lattice.specs.Order.{Order}
+use Rattle.label_lattice.specs.Reach.{flows}
 use Rattle.label_lattice.specs.declared.label.Label.{Label}
 use Rattle.gate_rules.specs.declared.gate.Gate.{Gate}
 use Rattle.gate_rules.specs.declared.filter.Filter.{Filter}

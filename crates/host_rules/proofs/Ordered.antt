@@ -1,7 +1,8 @@
 -- The labels of a policy are ordered.
 use Rattle.std.proofs.Common.{◌≡◌, ℕ, Bool, true, Option, Some, None, refl}
 use Rattle.std.specs.Prelude.{find, unwrap_or}
-use Rattle.label_lattice.specs.Order.{flows, count}
+use Rattle.label_lattice.specs.Order.{count}
+use Rattle.label_lattice.specs.Reach.{flows}
 use Rattle.label_lattice.specs.Joins.{is_join, labels, join}
 use Rattle.label_lattice.proofs.Joined.{join_found}
 use Rattle.host_rules.specs.Policies.{AreOrdered}

@@ -1,5 +1,6 @@
 -- The rules of a policy that was read.
-use Rattle.label_lattice.specs.Order.{flows, count}
+use Rattle.label_lattice.specs.Order.{count}
+use Rattle.label_lattice.specs.Reach.{flows}
 use Rattle.label_lattice.specs.Joins.{join}
 use Rattle.label_lattice.specs.Sound.{IsSound}
 use Rattle.policy_toml.specs.Parts.{Parts}

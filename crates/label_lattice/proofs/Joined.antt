@@ -28,3 +28,7 @@ found_in p a (suc k) j e = elim (first_or_later p a (find p (range_with_len (a +
 -- what is found is a label, and the join
 pub join_found : (n : ℕ) (f : ℕ → ℕ → Bool) (a b j : ℕ) → Some j ≡ find (is_join n f a b) (labels n) → (j < n) × IsJoin n f a b j
 join_found n f a b j e = let found = found_in (is_join n f a b) 0 n j (sym e) in (omega arith, (is_join_exact n f a b j).0 found.1)
+
+-- the search where the count and the order are given otherwise
+pub search_same : {m n : ℕ} {f g : ℕ → ℕ → Bool} → m ≡ n → f ≡ g → (a b : ℕ) → find (is_join m f a b) (labels m) ≡ find (is_join n g a b) (labels n)
+search_same e h a b = λ i. find (is_join (e i) (h i) a b) (labels (e i))

@@ -1,6 +1,6 @@
 -- Pairs of names, by position.
 use Rattle.std.proofs.Common.{◌≡◌, ℕ, zero, suc, ◌+◌, ◌<◌, List, [], ◌∷◌, ◌++◌, Option, Some, None, length, get_or, take, refl, sym, ◌∙◌, ap, subst, arith, ◌⊎◌, inl, inr}
-use Rattle.std.specs.Prelude.{Contains, min, max, option_map, option_and_then, ◌==◌}
+use Rattle.std.specs.Prelude.{min, max, option_map, option_and_then, ◌==◌}
 use Rattle.std.specs.List.{cons_option}
 use Rattle.std.specs.Cmp.{both_ways}
 use Rattle.std.proofs.lemmas.List.{take_more}
@@ -8,10 +8,9 @@ use Rattle.std.proofs.lemmas.List.Elements.{filter_map-append}
 use Rattle.std.proofs.lemmas.List.Quantifiers.{position-Some}
 use Rattle.std.proofs.lemmas.Bool.Decides.{Decides-eqb}
 use Rattle.std.proofs.lemmas.Nat.Bits.{bit_at-lt}
-use Rattle.label_lattice.specs.Order.{place_of, row_flows}
-use Rattle.label_lattice.specs.Reach.{Reaches, closes}
-use Rattle.label_lattice.specs.Rows.{bit, IsClosure, IsClosed}
-use Rattle.label_lattice.specs.Faults.{ends_of, numbered}
+use Rattle.label_lattice.specs.Order.{place_of}
+use Rattle.label_lattice.specs.Reach.{Reaches, closes, ends_of, numbered}
+use Rattle.label_lattice.specs.Rows.{ArePairs, bit, IsClosure, IsClosed, row_flows}
 use Rattle.label_lattice.proofs.Reaches.{Reaches-here, Reaches-trans, Reaches-push_old, Reaches-push_new, Reaches-push_cases, Reaches-within, exact_test}
 use Rattle.label_lattice.proofs.Least.{flows_from_bit, flows_itself, or_split}
 
@@ -57,10 +56,6 @@ IsClosure-more n ps p old new h within is = record {
     ],
   );
 }
-
--- the pairs are of labels
-abbrev pub ArePairs : ℕ → List (ℕ × ℕ) → Type 0
-ArePairs n ps = (p : ℕ × ℕ) → Contains ps p → (p.0 < n) × (p.1 < n)
 
 abbrev pub AreWithin : ℕ → List (ℕ × ℕ) → Type 0
 AreWithin n ps = (k : ℕ) (d : ℕ × ℕ) → k < length ps → ((get_or ps k d).0 < n) × ((get_or ps k d).1 < n)

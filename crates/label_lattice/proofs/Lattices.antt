@@ -15,7 +15,7 @@ use Rattle.label_lattice.proofs.Ranges.{is_some_find}
 use Rattle.label_lattice.proofs.Least.{any_label, is_join_exact, and_left, and_right, and_both}
 use Rattle.label_lattice.proofs.Naming.{or_none, not_false}
 use Rattle.label_lattice.proofs.Reaches.{Reaches-here, Reaches-trans, Reaches-within, exact_test}
-use Rattle.label_lattice.proofs.Joining.{ArePairs}
+use Rattle.label_lattice.specs.Rows.{ArePairs}
 
 -- the test of some number of a range
 any_range : (p : ℕ → Bool) (a k : ℕ) → (list_any p (range_with_len a k) ≡ true) ↔ ((u : ℕ) × (a ≤ u) × (u < a + k) × (p u ≡ true))

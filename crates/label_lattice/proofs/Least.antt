@@ -10,8 +10,7 @@ use Rattle.std.proofs.lemmas.List.Folds.{Any-from_list_any, list_any-from_Any}
 use Rattle.std.proofs.lemmas.Bool.{cases_Bool, cases_lt}
 use Rattle.std.proofs.lemmas.Bool.Decides.{Decides-eqb}
 use Rattle.std.proofs.lemmas.Nat.Bits.{bit_at-lt, bit_at_and, same_from_bits}
-use Rattle.label_lattice.specs.Order.{row_flows}
-use Rattle.label_lattice.specs.Rows.{bit, IsClosed}
+use Rattle.label_lattice.specs.Rows.{bit, IsClosed, row_flows}
 use Rattle.label_lattice.specs.Joins.{labels, turned, is_join, IsJoin}
 
 -- a test of all labels, and of some label

@@ -4,8 +4,7 @@ use Rattle.std.specs.Prelude.{option_map}
 use Rattle.std.specs.Option.{option_or}
 use Rattle.label_lattice.specs.declared.error.LatticeError.{LatticeError}
 use Rattle.label_lattice.specs.declared.error.LatticeError.TheVariants.{Cycle, NoJoin, NoMeet}
-use Rattle.label_lattice.specs.Order.{row_flows}
-use Rattle.label_lattice.specs.Rows.{IsClosed}
+use Rattle.label_lattice.specs.Rows.{IsClosed, row_flows}
 use Rattle.label_lattice.specs.Faults.{order_fault, cycle_of, no_join_of, no_meet_of, label_of}
 use Rattle.label_lattice.proofs.Least.{IsTurned, turned_flows}
 

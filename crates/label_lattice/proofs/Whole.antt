@@ -11,9 +11,9 @@ use lib.Pointwise.{bytes_decides}
 use Rattle.label_lattice.specs.declared.error.LatticeError.{LatticeError}
 use Rattle.label_lattice.specs.declared.error.LatticeError.TheVariants.{NoLabels, TooMany, UnknownLabel}
 use Rattle.label_lattice.specs.Order.{place_of}
-use Rattle.label_lattice.specs.Reach.{closes}
+use Rattle.label_lattice.specs.Reach.{closes, ends_of, numbered}
 use Rattle.label_lattice.specs.Joins.{labels}
-use Rattle.label_lattice.specs.Faults.{first_of, name_fault, end_fault, order_fault, ends_of, numbered}
+use Rattle.label_lattice.specs.Faults.{first_of, name_fault, end_fault, order_fault}
 use Rattle.label_lattice.specs.Laws.{IsExactFault}
 use Rattle.label_lattice.proofs.Firsts.{position_none, none_passes}
 use Rattle.label_lattice.proofs.Joining.{ends_found, no_start, no_end, numbered_pairs}

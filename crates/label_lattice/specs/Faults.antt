@@ -1,5 +1,5 @@
 -- What is wrong with a list of names and pairs that make no lattice.
-use Rattle.std.specs.Prelude.{◌≡◌, ◌≢◌, ℕ, List, [], ◌∷◌, Bool, ◌&&◌, ◌==◌, not, nat_eq, nat_lt, if◌then◌else◌, Option, Some, None, Result, Ok, Err, option_map, option_and_then, length, take, find, position, filter_map}
+use Rattle.std.specs.Prelude.{◌≡◌, ◌≢◌, ℕ, List, [], ◌∷◌, Bool, ◌&&◌, ◌==◌, not, nat_eq, nat_lt, if◌then◌else◌, Option, Some, None, Result, Ok, Err, option_map, length, take, find, position}
 use Rattle.std.specs.List.{list_any, slice_index_or}
 use Rattle.std.specs.Option.{option_or, is_none}
 use Rattle.std.specs.Cmp.Lexicographic.{pointwise}
@@ -7,22 +7,13 @@ use Rattle.trapeze_io.specs.Names.{is_name}
 use Rattle.label_lattice.specs.declared.label.Label.{Label}
 use Rattle.label_lattice.specs.declared.error.LatticeError.{LatticeError}
 use Rattle.label_lattice.specs.declared.error.LatticeError.TheVariants.{NoLabels, TooMany, BadName, Repeated, UnknownLabel, Cycle, NoJoin, NoMeet, NoMemory}
-use Rattle.label_lattice.specs.Order.{Order, flows, place_of}
-use Rattle.label_lattice.specs.Reach.{closes}
+use Rattle.label_lattice.specs.Reach.{closes, ends_of, numbered}
 use Rattle.label_lattice.specs.Joins.{labels, label_pairs, has_join, has_meet}
 
 -- the first answer that f gives of the elements
 abbrev pub first_of : {X Y : Type 0} → (X → Option Y) → List X → Option Y
 first_of f [] = None
 first_of f (x ∷ xs) = option_or (f x) (first_of f xs)
-
--- the pair by position, where both ends are names of labels
-abbrev pub ends_of : List (List ℕ) → List ℕ × List ℕ → Option (ℕ × ℕ)
-ends_of names pair = option_and_then (λ a. option_map (λ b. (a, b)) (place_of pair.1 names)) (place_of pair.0 names)
-
--- the pairs by position
-abbrev pub numbered : List (List ℕ) → List (List ℕ × List ℕ) → List (ℕ × ℕ)
-numbered names pairs = filter_map (ends_of names) pairs
 
 -- whether an earlier position has the name at position i
 abbrev pub is_repeated : List (List ℕ) → ℕ → Bool
@@ -68,12 +59,7 @@ first_fault names pairs =
     (option_or (end_fault names pairs)
     (order_fault (length names) (closes (numbered names pairs))))
 
--- the order has the names, and a flows to b by the pairs
-pub record Denotes (names : List (List ℕ)) (pairs : List (List ℕ × List ℕ)) (order : Order) : Type 0 where
-  pub same : order.names ≡ names
-  pub flows : (a b : ℕ) → flows order a b ≡ closes (numbered names pairs) a b
-
--- a value where there is no fault, and otherwise the fault, or want of memory
+-- a value where there is no fault, and otherwise the fault, or out of memory
 abbrev pub Passes : {T : Type 0} → Option LatticeError → Result T LatticeError → Type 0
 Passes fault (Ok x) = fault ≡ None
 Passes fault (Err e) = e ≢ NoMemory → fault ≡ Some e

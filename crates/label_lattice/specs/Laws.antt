@@ -1,7 +1,7 @@
 -- When names and pairs make a lattice.
 use Rattle.std.specs.Prelude.{◌≡◌, ◌<◌, ℕ, Bool, IsTrue, List, None, Contains, ◌↔◌, length}
-use Rattle.label_lattice.specs.Reach.{closes}
-use Rattle.label_lattice.specs.Faults.{first_fault, numbered}
+use Rattle.label_lattice.specs.Reach.{closes, numbered}
+use Rattle.label_lattice.specs.Faults.{first_fault}
 use Rattle.label_lattice.specs.Joins.{has_join, has_meet, IsJoin, IsMeet}
 use Rattle.label_lattice.specs.Sound.{AreNames, IsLattice}
 

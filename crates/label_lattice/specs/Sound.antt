@@ -1,7 +1,8 @@
 -- What holds of every lattice of labels.
 use Rattle.std.specs.Prelude.{◌≡◌, ℕ, ◌<◌, ◌≤◌, List, Some, slice_get, length, IsTrue, Bool}
 use Rattle.trapeze_io.specs.Names.{is_name}
-use Rattle.label_lattice.specs.Order.{Order, flows, count}
+use Rattle.label_lattice.specs.Order.{Order, count}
+use Rattle.label_lattice.specs.Reach.{flows}
 use Rattle.label_lattice.specs.Joins.{IsJoin, IsMeet}
 
 -- 1 to 64 different names

@@ -1,10 +1,11 @@
 //! A lattice of labels.
 
 ghost use Rattle.std.specs.Prelude.{◌≡◌, ◌<◌, ◌≤◌, Some, slice_get, length, IfOk, IfSome, option_map};
-ghost use Rattle.label_lattice.specs.Order.{flows, count, place_of};
-ghost use Rattle.label_lattice.specs.Rows.{IsClosure};
+ghost use Rattle.label_lattice.specs.Order.{count, place_of};
+ghost use Rattle.label_lattice.specs.Rows.{ArePairs, IsClosure};
 ghost use Rattle.label_lattice.specs.Joins.{IsJoin, join};
-ghost use Rattle.label_lattice.specs.Faults.{Passes, Denotes, first_fault, end_fault, numbered};
+ghost use Rattle.label_lattice.specs.Reach.{numbered, order_of, flows};
+ghost use Rattle.label_lattice.specs.Faults.{Passes, first_fault, end_fault};
 ghost use Rattle.label_lattice.specs.Sound.{IsSound, HasTop};
 
 use crate::error::LatticeError;
@@ -20,20 +21,22 @@ use trapeze_io::{Bytes, Name};
 #[derive(Drop)]
 pub struct Lattice {
     names: Names,
+    pairs: Vec<(u8, u8)>,
     table: Table,
 }
 
 impl Model for Lattice {
     ghost use Rattle.std.specs.Prelude.{length};
     ghost use Rattle.label_lattice.specs.Order.{Order};
-    ghost use Rattle.label_lattice.specs.Rows.{IsClosed};
+    ghost use Rattle.label_lattice.specs.Rows.{ArePairs, IsClosure};
     ghost use Rattle.label_lattice.specs.Sound.{IsSound};
 
     ghost Value = { Order };
 
-    ghost view = { λ l. record { names = l.names; rows = l.table } };
+    ghost view = { λ l. record { names = l.names; pairs = l.pairs.items } };
 
-    ghost invariant = { λ l. IsSound (record { names = l.names; rows = l.table }) × IsClosed (length l.names) l.table };
+    ghost invariant = { λ l. IsSound (record { names = l.names; pairs = l.pairs.items })
+        × ArePairs (length l.names) l.pairs.items × IsClosure (length l.names) l.pairs.items l.table };
 }
 
 impl Lattice {
@@ -48,7 +51,7 @@ impl Lattice {
         flows: &[(Bytes, Bytes)],
     ) -> Result<Lattice, LatticeError>
         ensures fault { Passes (first_fault names.now flows.now) result }
-        ensures order { IfOk result (Denotes names.now flows.now) }
+        ensures order { IfOk result (λ lattice. lattice ≡ order_of names.now flows.now) }
     {
         if names.is_empty() {
             return Err(LatticeError::NoLabels);
@@ -57,9 +60,15 @@ impl Lattice {
             return Err(LatticeError::TooMany);
         }
         let names = Names::read(alloc, names)?;
-        let table = closure(&names, flows)?;
-        check(&table, names.count())?;
-        Ok(Lattice { names, table })
+        let pairs = numbered(alloc, &names, flows)?;
+        let count = names.count();
+        let table = closure(count, &pairs);
+        check(&table, count)?;
+        Ok(Lattice {
+            names,
+            pairs,
+            table,
+        })
     }
 
     /// Whether a flows to b.
@@ -116,20 +125,39 @@ impl Lattice {
     }
 }
 
-/// Which label flows to which, by pairs of names.
-fn closure(names: &Names, flows: &[(Bytes, Bytes)]) -> Result<Table, LatticeError>
+/// The pairs by number.
+fn numbered(
+    alloc: Global,
+    names: &Names,
+    flows: &[(Bytes, Bytes)],
+) -> Result<Vec<(u8, u8)>, LatticeError>
     ensures fault { Passes (end_fault names.now flows.now) result }
-    ensures order { IfOk result (IsClosure (length names.now) (numbered names.now flows.now)) }
+    ensures pairs { IfOk result (λ pairs. pairs.items ≡ numbered names.now flows.now) }
 {
-    let mut table = Table::new(names.count());
-    'pairs: for (j, (from, to)) in flows.iter().enumerate() {
+    let mut pairs = Vec::new(alloc);
+    'flows: for (j, (from, to)) in flows.iter().enumerate() {
         let Some(from) = names.find(from.as_slice()) else {
             return Err(LatticeError::UnknownLabel(j as u64));
         };
         let Some(to) = names.find(to.as_slice()) else {
             return Err(LatticeError::UnknownLabel(j as u64));
         };
+        let Ok(()) = pairs.push((from, to)) else {
+            return Err(LatticeError::NoMemory);
+        };
+    }
+    Ok(pairs)
+}
+
+/// Which label flows to which.
+fn closure(count: u8, pairs: &[(u8, u8)]) -> Table
+    requires few { count ≤ 64 }
+    requires within { ArePairs count pairs.now }
+    ensures { IsClosure count pairs.now result }
+{
+    let mut table = Table::new(count);
+    'pairs: for &(from, to) in pairs.iter() {
         table.add(from, to);
     }
-    Ok(table)
+    table
 }

@@ -1,8 +1,7 @@
 //! The search for labels that show that an order is no lattice.
 
 ghost use Rattle.std.specs.Prelude.{◌≡◌, ◌<◌, ◌≤◌};
-ghost use Rattle.label_lattice.specs.Order.{row_flows};
-ghost use Rattle.label_lattice.specs.Rows.{IsClosed};
+ghost use Rattle.label_lattice.specs.Rows.{IsClosed, row_flows};
 ghost use Rattle.label_lattice.specs.Faults.{Passes, order_fault, cycle_of, no_join_of};
 
 use crate::error::LatticeError;

@@ -2,8 +2,7 @@
 
 ghost use Rattle.std.specs.Prelude.{◌≡◌, ℕ, ◌<◌, ◌≤◌, [], min, max, slice_index, find};
 ghost use Rattle.std.specs.Int.{bit_at};
-ghost use Rattle.label_lattice.specs.Order.{row_flows};
-ghost use Rattle.label_lattice.specs.Rows.{bit, IsClosure, IsClosed};
+ghost use Rattle.label_lattice.specs.Rows.{bit, IsClosure, IsClosed, row_flows};
 ghost use Rattle.label_lattice.specs.Joins.{labels, is_join};
 
 use std::marker::Model;

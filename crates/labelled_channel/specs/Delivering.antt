@@ -3,7 +3,8 @@ use Rattle.std.specs.Prelude.{◌≢◌, ℕ, ◌<◌, List, Option, Some, None,
 use Rattle.std.specs.List.{AllPairs}
 use Rattle.std.specs.Cmp.Lexicographic.{pointwise}
 use Rattle.std.specs.Map.{lookup}
-use Rattle.label_lattice.specs.Order.{Order, flows}
+use Rattle.label_lattice.specs.Order.{Order}
+use Rattle.label_lattice.specs.Reach.{flows}
 use Rattle.trapeze_io.specs.Names.{is_name}
 use Rattle.labelled_channel.specs.declared.channels.Channel.{Channel}
 use Rattle.labelled_channel.specs.declared.channels.Delivery.{Delivery}

@@ -1,6 +1,6 @@
 -- What is seen of lines that were seen.
 use Rattle.std.proofs.Common.{◌≡◌, Bool, true, ◌∙◌}
-use Rattle.label_lattice.specs.Order.{flows}
+use Rattle.label_lattice.specs.Reach.{flows}
 use Rattle.trapeze_lines.specs.declared.line.Line.{Line}
 use Rattle.host_rules.proofs.Lists.{kept_by_both, filter_twice, filters_commute}
 use Rattle.std.proofs.lemmas.List.Elements.{filter-append}

@@ -1,6 +1,7 @@
 -- What an observer sees of lists of lines.
 use Rattle.std.specs.Prelude.{◌≡◌, ℕ, Bool, List, true, ◌++◌}
-use Rattle.label_lattice.specs.Order.{Order, flows}
+use Rattle.label_lattice.specs.Order.{Order}
+use Rattle.label_lattice.specs.Reach.{flows}
 use Rattle.label_lattice.specs.Sound.{IsSound}
 use Rattle.trapeze_lines.specs.declared.line.Line.{Line}
 use Rattle.trapeze_lines.specs.Lines.{visible, run_kinds}

@@ -1,7 +1,8 @@
 //! The lines that an observer sees.
 
 ghost use Rattle.std.specs.Prelude.{◌≡◌, ◌<◌, All, IfOk};
-ghost use Rattle.label_lattice.specs.Order.{count, flows};
+ghost use Rattle.label_lattice.specs.Order.{count};
+ghost use Rattle.label_lattice.specs.Reach.{flows};
 ghost use Rattle.policy_toml.specs.Parts.{Parts};
 ghost use Rattle.trapeze_lines.specs.Lines.{IsLabelled, visible};
 ghost use Rattle.host_rules.specs.Policies.{rules_of};

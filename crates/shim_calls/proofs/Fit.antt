@@ -6,7 +6,8 @@ use Rattle.std.proofs.lemmas.List.{length-take}
 use Rattle.trapeze_io.specs.Names.{is_name}
 use Rattle.trapeze_io.specs.Answers.{◌>>=◌}
 use Rattle.label_lattice.specs.declared.label.Label.{Label}
-use Rattle.label_lattice.specs.Order.{Order, flows}
+use Rattle.label_lattice.specs.Order.{Order}
+use Rattle.label_lattice.specs.Reach.{flows}
 use Rattle.label_lattice.proofs.Tables.{lookup_all}
 use Rattle.labelled_channel.specs.declared.channels.Channel.{Channel}
 use Rattle.labelled_channel.specs.declared.channels.Delivery.{Delivery}

@@ -7,7 +7,8 @@ use Rattle.std.proofs.lemmas.List.Elements.{All-nil}
 use Rattle.trapeze_io.specs.Sinks.{AppendsPart}
 use Rattle.wasm_ast.specs.declared.modules.Module.{Module}
 use Rattle.wasm_semantics.specs.Threads.{Thread}
-use Rattle.label_lattice.specs.Order.{count, flows}
+use Rattle.label_lattice.specs.Order.{count}
+use Rattle.label_lattice.specs.Reach.{flows}
 use Rattle.policy_toml.specs.Parts.{Parts}
 use Rattle.event_file.specs.declared.entry.Event.{Event}
 use Rattle.trapeze_lines.specs.declared.line.Line.{Line}

@@ -1,8 +1,8 @@
 -- A policy's parts give the rules that are written.
 use Rattle.std.proofs.Common.{◌≡◌, List, length, ap, subst, ◌∙◌}
 use Rattle.std.proofs.lemmas.List.{length-map}
-use Rattle.label_lattice.specs.Order.{count, flows}
-use Rattle.label_lattice.specs.Reach.{closes}
+use Rattle.label_lattice.specs.Order.{count}
+use Rattle.label_lattice.specs.Reach.{closes, flows}
 use Rattle.label_lattice.specs.Faults.{numbered}
 use Rattle.label_lattice.specs.Joins.{join}
 use Rattle.label_lattice.specs.Sound.{IsSound}

@@ -2,7 +2,8 @@
 
 ghost use Rattle.std.specs.Prelude.{◌≡◌, ◌≤◌, ◌<◌, ◌+◌, ◌^◌, ◌++◌, ◌∷◌, [], All, OnOk, Ok, Err};
 ghost use Rattle.std.specs.Prelude.{filter, length, replicate};
-ghost use Rattle.label_lattice.specs.Order.{count, flows};
+ghost use Rattle.label_lattice.specs.Order.{count};
+ghost use Rattle.label_lattice.specs.Reach.{flows};
 ghost use Rattle.event_file.specs.Script.{IsFit, IsWithin};
 ghost use Rattle.trapeze_lines.specs.Lines.{IsLabelled};
 ghost use Rattle.trapeze_lines.specs.Texts.{text};

@@ -17,7 +17,8 @@ pub(crate) enum Shown {
 }
 
 impl Shown {
-    ghost use Rattle.label_lattice.specs.Order.{count, flows};
+    ghost use Rattle.label_lattice.specs.Order.{count};
+    ghost use Rattle.label_lattice.specs.Reach.{flows};
     ghost use Rattle.trapeze_lines.specs.Lines.{IsLabelled};
     ghost use Rattle.trapeze_cli.specs.Runs.{IsShownTo};
     ghost use Rattle.trapeze_cli.specs.Shows.{shows};

@@ -1,6 +1,6 @@
 use Rattle.std.proofs.Common.{◌∙◌, ◌+◌, ◌++◌, ◌∷◌, [], sym, ap, take, length, arith}
 use Rattle.std.proofs.lemmas.List.{take_all}
-use Rattle.label_lattice.specs.Order.{flows}
+use Rattle.label_lattice.specs.Reach.{flows}
 use Rattle.facet_index.specs.Steps.{rows_played, answer_of, answers_of}
 use Rattle.facet_index.proofs.Played.{answers_of-push, step_more, rows_more}
 use Rattle.facet_index.proofs.steps.play_steps.Goals as goal

@@ -1,5 +1,5 @@
 use Rattle.std.proofs.Common.{◌≡◌, take}
-use Rattle.label_lattice.specs.Order.{flows}
+use Rattle.label_lattice.specs.Reach.{flows}
 use Rattle.facet_index.specs.Steps.{rows_played, answers_of}
 use Rattle.facet_index.proofs.steps.play_steps.Given as goal
 

@@ -1,6 +1,6 @@
 use Rattle.std.proofs.Common.{◌≡◌, ◌∙◌, Bool, true, false, ap, sym, arith, find}
 use Rattle.std.specs.Prelude.{◌&&◌}
-use Rattle.label_lattice.specs.Order.{row_flows}
+use Rattle.label_lattice.specs.Rows.{row_flows}
 use Rattle.label_lattice.proofs.Ranges.{pairs_more, find_pair_here, find_pair_next}
 use Rattle.label_lattice.proofs.search.cycle_of.Goals as goal
 use Rattle.label_lattice.proofs.search.cycle_of.Goals.{else-flows-via-then-flows+else-flows-2, else-flows-via-else-flows}

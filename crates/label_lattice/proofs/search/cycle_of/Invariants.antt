@@ -1,6 +1,6 @@
 use Rattle.std.proofs.Common.{◌≡◌, find}
 use Rattle.std.specs.Prelude.{◌&&◌}
-use Rattle.label_lattice.specs.Order.{row_flows}
+use Rattle.label_lattice.specs.Rows.{row_flows}
 use Rattle.label_lattice.specs.Faults.{cycle_of}
 use Rattle.label_lattice.proofs.Ranges.{pairs_from, pairs_at}
 use Rattle.label_lattice.proofs.search.cycle_of.Given as goal

@@ -1,7 +1,7 @@
 use Rattle.std.proofs.Common.{◌≡◌, ◌∙◌, true, false, ap, sym, arith, find}
 use Rattle.std.specs.Prelude.{not}
 use Rattle.std.specs.Option.{is_some}
-use Rattle.label_lattice.specs.Order.{row_flows}
+use Rattle.label_lattice.specs.Rows.{row_flows}
 use Rattle.label_lattice.specs.Joins.{labels, is_join, has_join}
 use Rattle.label_lattice.proofs.Ranges.{pairs_more, find_pair_here, find_pair_next, is_some_find}
 use Rattle.label_lattice.proofs.search.no_join_of.Goals as goal

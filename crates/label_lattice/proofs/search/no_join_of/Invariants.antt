@@ -1,6 +1,6 @@
 use Rattle.std.proofs.Common.{◌≡◌, find}
 use Rattle.std.specs.Prelude.{not}
-use Rattle.label_lattice.specs.Order.{row_flows}
+use Rattle.label_lattice.specs.Rows.{row_flows}
 use Rattle.label_lattice.specs.Joins.{has_join}
 use Rattle.label_lattice.specs.Faults.{no_join_of}
 use Rattle.label_lattice.proofs.Ranges.{pairs_from, pairs_at}

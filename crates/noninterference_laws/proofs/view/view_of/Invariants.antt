@@ -1,5 +1,5 @@
 use Rattle.std.proofs.Common.{◌≡◌, take}
-use Rattle.label_lattice.specs.Order.{flows}
+use Rattle.label_lattice.specs.Reach.{flows}
 use Rattle.trapeze_lines.specs.Lines.{visible}
 use Rattle.noninterference_laws.proofs.view.view_of.Given as goal
 

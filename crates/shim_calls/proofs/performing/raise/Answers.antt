@@ -1,5 +1,6 @@
 use Rattle.std.proofs.Common.{ap, sym, ◌∙◌}
-use Rattle.label_lattice.specs.Order.{Order, count, flows}
+use Rattle.label_lattice.specs.Order.{Order, count}
+use Rattle.label_lattice.specs.Reach.{flows}
 use Rattle.label_lattice.specs.Joins.{join}
 use Rattle.sandbox.specs.Threads.{waiting}
 use Rattle.host_rules.specs.Policies.{rules_of}

@@ -1,6 +1,6 @@
 use Rattle.std.proofs.Common.{◌≡◌, [], ◌∷◌, Some, None, ap, sym, subst}
 use Rattle.std.proofs.lemmas.Result.{IfOk-weaker}
-use Rattle.label_lattice.specs.Order.{flows}
+use Rattle.label_lattice.specs.Reach.{flows}
 use Rattle.trapeze_lines.specs.declared.line.Kind.TheVariants as kind
 use Rattle.trapeze_lines.specs.Lines.{line_at}
 use Rattle.sandbox.specs.Threads.{waiting}

@@ -1,6 +1,6 @@
 use Rattle.std.proofs.Common.{◌≡◌, ◌++◌, take}
 use Rattle.std.specs.Prelude.{filter}
-use Rattle.label_lattice.specs.Order.{flows}
+use Rattle.label_lattice.specs.Reach.{flows}
 use Rattle.trapeze_lines.specs.Texts.{text}
 use Rattle.trapeze_cli.specs.Shows.{shows}
 use Rattle.trapeze_cli.proofs.play.tell.Given as goal

@@ -2,7 +2,8 @@ use Rattle.std.proofs.Common.{◌∙◌, ◌<◌, ◌≡◌, sym, ap, subst, Som
 use Rattle.std.specs.Prelude.{All}
 use Rattle.std.specs.Option.{option_copied}
 use Rattle.std.specs.Map.{lookup}
-use Rattle.label_lattice.specs.Order.{flows, count}
+use Rattle.label_lattice.specs.Order.{count}
+use Rattle.label_lattice.specs.Reach.{flows}
 use Rattle.facet_list.specs.Rows.{Member, Row, read_row, row_of, IsValue}
 use Rattle.facet_list.proofs.Sizes.{read_sized}
 use Rattle.facet_index.specs.Rows.{rows_in}

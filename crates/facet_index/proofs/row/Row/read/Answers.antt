@@ -1,6 +1,6 @@
 use Rattle.std.proofs.Common.{◌∙◌, sym, ap}
 use Rattle.std.specs.Option.{option_copied}
-use Rattle.label_lattice.specs.Order.{flows}
+use Rattle.label_lattice.specs.Reach.{flows}
 use Rattle.facet_index.proofs.Members.{read_more}
 use Rattle.facet_index.proofs.row.Row.read.Goals as goal
 use Rattle.facet_index.proofs.row.Row.read.Goals.{then-flows, else-flows}

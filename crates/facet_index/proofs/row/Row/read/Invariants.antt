@@ -1,6 +1,6 @@
 use Rattle.std.proofs.Common.{◌≡◌, take}
 use Rattle.std.specs.Option.{option_copied}
-use Rattle.label_lattice.specs.Order.{flows}
+use Rattle.label_lattice.specs.Reach.{flows}
 use Rattle.facet_list.specs.Rows.{read_row}
 use Rattle.facet_index.proofs.row.Row.read.Given as goal
 

@@ -3,7 +3,8 @@ use Rattle.std.specs.Prelude.{All}
 use Rattle.std.specs.Option.{option_copied}
 use Rattle.std.proofs.lemmas.List.{take_all}
 use Rattle.std.proofs.lemmas.List.Elements.{All-get_or}
-use Rattle.label_lattice.specs.Order.{flows, count}
+use Rattle.label_lattice.specs.Order.{count}
+use Rattle.label_lattice.specs.Reach.{flows}
 use Rattle.facet_list.specs.Store.{Write, read}
 use Rattle.facet_list.specs.Rows.{rows_of, IsValue, AreBelow}
 use Rattle.facet_list.proofs.RowLaws.{read_rows_of, read_more}

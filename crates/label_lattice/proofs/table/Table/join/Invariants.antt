@@ -1,5 +1,5 @@
 use Rattle.std.proofs.Common.{◌≡◌, find}
-use Rattle.label_lattice.specs.Order.{row_flows}
+use Rattle.label_lattice.specs.Rows.{row_flows}
 use Rattle.label_lattice.specs.Joins.{labels, labels_from, is_join}
 use Rattle.label_lattice.proofs.table.Table.join.Given as goal
 
