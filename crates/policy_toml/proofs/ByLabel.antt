@@ -7,7 +7,7 @@ use Rattle.std.specs.List.{range_with_len, slice_index_or}
 use Rattle.label_limits.specs.Ranges.{first_outside, is_within, usual, AreWithin}
 use Rattle.label_limits.specs.declared.limits.Limits.{Limits}
 use Rattle.policy_toml.specs.PolicyOf.{limits_at, limits_by_label}
-use Rattle.policy_toml.specs.Steps.{IsRowOf}
+use Rattle.policy_toml.specs.Stages.{IsRowOf}
 
 -- the first of six tests that fails, from 1
 unfoldable failing : Bool → Bool → Bool → Bool → Bool → Bool → Option ℕ

@@ -7,7 +7,7 @@ use Rattle.std.proofs.lemmas.List.Elements.{All-append}
 use Rattle.std.proofs.lemmas.Bool.{le-leb, lt-leb}
 use Rattle.std.proofs.lemmas.Cmp.{nat_list_cmp_total}
 use Rattle.std.proofs.lemmas.Str.{IsUtf8-from_is_utf8, is_utf8-from_IsUtf8}
-use Rattle.std.specs.Prelude.{ok_or, All, position, slice_get, Bool, if◌then◌else◌}
+use Rattle.std.specs.Prelude.{ok_or, Result, All, position, slice_get, Bool, if◌then◌else◌}
 use Rattle.std.specs.Cmp.{both_ways, tied_itself}
 use Rattle.std.specs.Cmp.Lexicographic.{pointwise, slice_cmp}
 use Rattle.std.specs.List.{AllByRecursion, position_from}
@@ -28,29 +28,29 @@ use Rattle.policy_toml.specs.declared.error.PolicyError.TheVariants.{Toml, OutOf
 use Rattle.trapeze_io.specs.Names.{Ascend}
 use Rattle.policy_toml.specs.Places.{whole}
 use Rattle.trapeze_io.specs.Answers.{◌>>=◌}
-use Rattle.policy_toml.specs.Rows.{Reading, each_row, items_of, rows_of, keys_in}
-use Rattle.policy_toml.specs.Steps.{document_of, two_texts, at_most}
+use Rattle.policy_toml.specs.Rows.{each_row, items_of, rows_of, keys_in}
+use Rattle.policy_toml.specs.Stages.{document_of, two_texts, at_most}
 
 -- what was found, and then what the rest reads as
-abbrev pub after : {Y : Type 0} → List Y → Reading (List Y) → Reading (List Y)
+abbrev pub after : {Y : Type 0} → List Y → Result (List Y) PolicyError → Result (List Y) PolicyError
 after found rest = rest >>= (λ ys. Ok (found ++ ys))
 
 -- the rows so far gave what was found, and those left are still to be read
-pub record SoFar {X Y : Type 0} (read : ℕ → X → Reading Y) (all left : List X) (found : List Y) : Type 0 where
+pub record SoFar {X Y : Type 0} (read : ℕ → X → Result Y PolicyError) (all left : List X) (found : List Y) : Type 0 where
   pub so_far : each_row read 1 all ≡ after found (each_row read (length found + 1) left)
 
-pub SoFar-none : {X Y : Type 0} (read : ℕ → X → Reading Y) (all : List X) → SoFar read all all []
+pub SoFar-none : {X Y : Type 0} (read : ℕ → X → Result Y PolicyError) (all : List X) → SoFar read all all []
 SoFar-none read all = record { so_far = elim (each_row read 1 all) as (λ r. r ≡ after [] r) [ Ok ys ↦ refl | Err e ↦ refl ] }
 
-pub SoFar-begin : {X Y : Type 0} (read : ℕ → X → Reading Y) (all left : List X) (found : List Y) → left ≡ all → found ≡ [] → SoFar read all left found
+pub SoFar-begin : {X Y : Type 0} (read : ℕ → X → Result Y PolicyError) (all left : List X) (found : List Y) → left ≡ all → found ≡ [] → SoFar read all left found
 SoFar-begin read all left found same none = rw (same, none) (SoFar-none read all)
 
-after-cons : {Y : Type 0} (found : List Y) (y : Y) (rest : Reading (List Y)) → after found (rest >>= (λ ys. Ok (y ∷ ys))) ≡ after (found ++ y ∷ []) rest
+after-cons : {Y : Type 0} (found : List Y) (y : Y) (rest : Result (List Y) PolicyError) → after found (rest >>= (λ ys. Ok (y ∷ ys))) ≡ after (found ++ y ∷ []) rest
 after-cons found y (Ok ys) = ap Ok (sym (append_assoc found (y ∷ []) ys))
 after-cons found y (Err e) = refl
 
 -- one more row
-pub SoFar-more : {X Y : Type 0} (read : ℕ → X → Reading Y) (all : List X) (x : X) (left : List X) (found : List Y) (y : Y)
+pub SoFar-more : {X Y : Type 0} (read : ℕ → X → Result Y PolicyError) (all : List X) (x : X) (left : List X) (found : List Y) (y : Y)
     → SoFar read all (x ∷ left) found → read (length found + 1) x ≡ Ok y → SoFar read all left (found ++ y ∷ [])
 SoFar-more read all x left found y so is = record {
   so_far = so.so_far
@@ -60,13 +60,13 @@ SoFar-more read all x left found y so is = record {
 }
 
 -- a row with a fault
-pub SoFar-fault : {X Y : Type 0} (read : ℕ → X → Reading Y) (all : List X) (x : X) (left : List X) (found : List Y) (e : PolicyError)
+pub SoFar-fault : {X Y : Type 0} (read : ℕ → X → Result Y PolicyError) (all : List X) (x : X) (left : List X) (found : List Y) (e : PolicyError)
     → SoFar read all (x ∷ left) found → read (length found + 1) x ≡ Err e → each_row read 1 all ≡ Err e
 SoFar-fault read all x left found e so is =
     so.so_far ∙ ap (λ r. after found (r >>= (λ y. each_row read (length found + 1 + 1) left >>= (λ ys. Ok (y ∷ ys))))) is
 
 -- no row is left
-pub SoFar-done : {X Y : Type 0} (read : ℕ → X → Reading Y) (all : List X) (found : List Y) → SoFar read all [] found → each_row read 1 all ≡ Ok found
+pub SoFar-done : {X Y : Type 0} (read : ℕ → X → Result Y PolicyError) (all : List X) (found : List Y) → SoFar read all [] found → each_row read 1 all ≡ Ok found
 SoFar-done read all found so = so.so_far ∙ ap Ok (append-nil found)
 
 -- the items from an index on
@@ -88,17 +88,17 @@ not_two (a ∷ b ∷ []) n = absurd (n refl)
 not_two (a ∷ b ∷ c ∷ values) n = refl
 
 -- the parts of a reading that gave a value
-record Parts {X Y : Type 0} (first : Reading X) (next : X → Reading Y) (y : Y) : Type 0 where
+record Parts {X Y : Type 0} (first : Result X PolicyError) (next : X → Result Y PolicyError) (y : Y) : Type 0 where
   pub value : X
   pub gave : first ≡ Ok value
   pub onward : next value ≡ Ok y
 
-parts_of : {X Y : Type 0} (first : Reading X) (next : X → Reading Y) (y : Y) → first >>= next ≡ Ok y → Parts first next y
+parts_of : {X Y : Type 0} (first : Result X PolicyError) (next : X → Result Y PolicyError) (y : Y) → first >>= next ≡ Ok y → Parts first next y
 parts_of (Ok x) next y is = record { value = x; gave = refl; onward = is }
 parts_of (Err e) next y is = absurd (cc)
 
 -- as many values as rows
-pub each_row-length : {X Y : Type 0} (read : ℕ → X → Reading Y) (row : ℕ) (rows : List X) (ys : List Y) → each_row read row rows ≡ Ok ys → length ys ≡ length rows
+pub each_row-length : {X Y : Type 0} (read : ℕ → X → Result Y PolicyError) (row : ℕ) (rows : List X) (ys : List Y) → each_row read row rows ≡ Ok ys → length ys ≡ length rows
 each_row-length read row [] ys is = let none : [] ≡ ys = cc in ap length (sym none)
 each_row-length {X} {Y} read row (x ∷ rows) ys is =
     let here = parts_of (read row x) (λ y. each_row read (row + 1) rows >>= (λ zs. Ok (y ∷ zs))) ys is in
@@ -185,7 +185,7 @@ pub Named-new : {V : Type 0} (P : List ℕ × V → Type 0) (found : List (List 
 Named-new P found name d left all so = new_name found name (keys_in left) (subst Ascend (sym so.names) so.ascend)
 
 -- the same, at the entries of a map: one more entry was read, or none is left
-pub SoFar-next : {Y : Type 0} (read : ℕ → List ℕ × Data → Reading Y) (all : List (List ℕ × Data)) (es left : List Entry) (key : String Global) (v : Value) (found now : List Y) (y : Y)
+pub SoFar-next : {Y : Type 0} (read : ℕ → List ℕ × Data → Result Y PolicyError) (all : List (List ℕ × Data)) (es left : List Entry) (key : String Global) (v : Value) (found now : List Y) (y : Y)
     → SoFar read all (rows_of (members_view es)) found → es ≡ (key, v) ∷ left → read (length found + 1) (string_bytes key, view v) ≡ Ok y → now ≡ found ++ y ∷ [] → SoFar read all (rows_of (members_view left)) now
 SoFar-next read all es left key v found now y so step is pushed =
     rw pushed (SoFar-more read all (string_bytes key, view v) (rows_of (members_view left)) found y (subst (λ (x : List Entry). SoFar read all (rows_of (members_view x)) found) step so) is)
@@ -195,7 +195,7 @@ pub Named-next : {Y : Type 0} (name : Y → List ℕ) (P : Y → Type 0) (es lef
 Named-next name P es left all key v found now y so step is here pushed =
     rw pushed (Named-more name P found y (string_bytes key) (view v) (members_view left) (members_view all) (subst (λ (x : List Entry). Named name P found (members_view x) (members_view all)) step so) is here)
 
-pub SoFar-count : {Y : Type 0} (read : ℕ → List ℕ × Data → Reading Y) (all : List (List ℕ × Data)) (es : List Entry) (found : List Y) → SoFar read all (rows_of (members_view es)) found → es ≡ [] → length found ≡ length all
+pub SoFar-count : {Y : Type 0} (read : ℕ → List ℕ × Data → Result Y PolicyError) (all : List (List ℕ × Data)) (es : List Entry) (found : List Y) → SoFar read all (rows_of (members_view es)) found → es ≡ [] → length found ≡ length all
 SoFar-count read all es found so none =
     each_row-length read 1 all found (SoFar-done read all found (subst (λ (x : List Entry). SoFar read all (rows_of (members_view x)) found) none so))
 

@@ -10,9 +10,9 @@ use Rattle.label_limits.specs.declared.limits.Limits.{Limits}
 use Rattle.labelled_channel.specs.declared.channels.Channel.{Channel}
 use Rattle.gate_rules.specs.declared.gate.Gate.{Gate}
 use Rattle.trapeze_io.specs.Names.{Ascend}
-use Rattle.policy_toml.specs.Steps.{root_keys, labels_of, flows_of, lattice_of, limits_of, functions_of, channels_of, clients_of, gates_of, is_file_name, IsFunction, IsClient, IsChannel, IsGate}
-use Rattle.policy_toml.specs.Parts.{IsPolicy}
-use Rattle.policy_toml.specs.PolicyOf.{table_policy}
+use Rattle.policy_toml.specs.Stages.{root_keys, labels_of, flows_of, lattice_of, limits_of, functions_of, channels_of, clients_of, gates_of, is_file_name, IsFunction, IsClient, IsChannel, IsGate}
+use Rattle.policy_toml.specs.Parts.{Parts, IsPolicy}
+use Rattle.policy_toml.specs.PolicyOf.{table_policy, limits_by_label}
 
 -- what holds of the functions and the clients that were read
 pub record FunctionsRead (rows : List (List ℕ × List ℕ)) (names : List (List ℕ)) (files : List (List ℕ)) : Type 0 where
@@ -55,10 +55,30 @@ is_policy order limits channels functions files clients clearances gates functio
       gates = lead;
     }
 
--- every step gave a value, so the table is a policy
-pub accepted : (root : Members) (names : List (List ℕ)) (flows : List (List ℕ × List ℕ)) (limits : List (ℕ × Limits)) (functions : List (List ℕ × List ℕ)) (channels : List (List ℕ × Channel)) (clients : List (List ℕ × ℕ)) (gates : List (List ℕ × Gate))
-    → root_keys root ≡ Ok tt → labels_of root ≡ Ok names → flows_of root ≡ Ok flows → lattice_of names flows ≡ Ok tt → limits_of names root ≡ Ok limits → functions_of root ≡ Ok functions
+-- each stage gave a value, so the table is a policy
+pub accepted : (root : Members) (names : List (List ℕ)) (flows : List (List ℕ × List ℕ)) (lattice : Order) (limits : List (ℕ × Limits)) (functions : List (List ℕ × List ℕ)) (channels : List (List ℕ × Channel)) (clients : List (List ℕ × ℕ)) (gates : List (List ℕ × Gate))
+    → root_keys root ≡ Ok tt → labels_of root ≡ Ok names → flows_of root ≡ Ok flows → lattice_of names flows ≡ Ok lattice → limits_of names root ≡ Ok limits → functions_of root ≡ Ok functions
     → channels_of names (map (λ f. f.0) functions) root ≡ Ok channels → clients_of names root ≡ Ok clients → gates_of names (map (λ f. f.0) functions) root ≡ Ok gates
-    → table_policy root ≡ Ok (record { names = names; flows = flows; limits = limits; functions = functions; channels = channels; clients = clients; gates = gates })
+    → table_policy root ≡ Ok (record {
+      lattice = lattice;
+      limits = limits_by_label (length names) limits;
+      channels = channels;
+      functions = map (λ f. f.0) functions;
+      files = map (λ f. f.1) functions;
+      clients = map (λ c. c.0) clients;
+      clearances = map (λ c. c.1) clients;
+      gates = gates;
+    })
 unfolding table_policy
-accepted root names flows limits functions channels clients gates a b c d e f g h i = rw (a, b, c, d, e, f, g, h, i) refl
+accepted root names flows lattice limits functions channels clients gates a b c d e f g h i = rw (a, b, c, d, e, f, g, h, i) refl
+
+abbrev with_parts : Order → List Limits → List (List ℕ × Channel) → List (List ℕ) → List (List ℕ) → List (List ℕ) → List ℕ → List (List ℕ × Gate) → Parts
+with_parts lattice limits channels functions files clients clearances gates =
+    record { lattice = lattice; limits = limits; channels = channels; functions = functions; files = files; clients = clients; clearances = clearances; gates = gates }
+
+-- parts that are the same make the same policy
+pub parts_same : {lattice : Order} {limits limits' : List Limits} {channels : List (List ℕ × Channel)} {functions functions' files files' clients clients' : List (List ℕ)} {clearances clearances' : List ℕ} {gates : List (List ℕ × Gate)}
+    → limits ≡ limits' → functions ≡ functions' → files ≡ files' → clients ≡ clients' → clearances ≡ clearances'
+    → with_parts lattice limits channels functions files clients clearances gates ≡ with_parts lattice limits' channels functions' files' clients' clearances' gates
+parts_same {lattice} {limits} {limits'} {channels} {functions} {functions'} {files} {files'} {clients} {clients'} {clearances} {clearances'} {gates} l f g c d =
+    λ i. with_parts lattice (l i) channels (f i) (g i) (c i) (d i) gates

@@ -1,5 +1,5 @@
 pub mod Places
 pub mod Rows
-pub mod Steps
+pub mod Stages
 pub mod Parts
 pub mod PolicyOf

@@ -8,7 +8,7 @@ use Rattle.label_limits.specs.declared.limits.Limits.{Limits}
 use Rattle.labelled_channel.specs.declared.channels.Channel.{Channel}
 use Rattle.gate_rules.specs.declared.gate.Gate.{Gate}
 use Rattle.trapeze_io.specs.Names.{Ascend}
-use Rattle.policy_toml.specs.Steps.{is_file_name, IsChannel, IsGate}
+use Rattle.policy_toml.specs.Stages.{is_file_name, IsChannel, IsGate}
 
 -- the parts of a policy; functions and clients are numbered by position
 pub record Parts : Type 0 where

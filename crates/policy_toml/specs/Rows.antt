@@ -1,4 +1,4 @@
--- Reading row by row: what the rows say, or the first fault among them.
+-- Result row PolicyError by row: what the rows say, or the first fault among them.
 use Rattle.std.specs.Prelude.{◌≡◌, ◌≢◌, ℕ, ◌+◌, Bool, not, List, [], ◌∷◌, Option, Some, None, ok_or, Result, Ok, Err, codes, nat_eq}
 use Rattle.std.specs.List.{list_any, position_from}
 use Rattle.std.specs.Cmp.Lexicographic.{pointwise}
@@ -11,17 +11,13 @@ use Rattle.policy_toml.specs.declared.error.PolicyError.{PolicyError}
 use Rattle.policy_toml.specs.declared.error.PolicyError.TheVariants.{Extra, Missing, WrongKind, NoMemory}
 use Rattle.policy_toml.specs.Places.{row_of}
 
--- what is read, or the first fault
-abbrev pub Reading : Type 0 → Type 0
-Reading X = Result X PolicyError
-
 -- a test that gives nothing but its fault
-abbrev pub unless : Option PolicyError → Reading (Unit {0})
+abbrev pub unless : Option PolicyError → Result (Unit {0}) PolicyError
 unless None = Ok tt
 unless (Some fault) = Err fault
 
 -- each row in order, by its number
-abbrev pub each_row : {X Y : Type 0} → (ℕ → X → Reading Y) → ℕ → List X → Reading (List Y)
+abbrev pub each_row : {X Y : Type 0} → (ℕ → X → Result Y PolicyError) → ℕ → List X → Result (List Y) PolicyError
 each_row read row [] = Ok []
 each_row read row (x ∷ others) = read row x >>= (λ y. each_row read (row + 1) others >>= (λ ys. Ok (y ∷ ys)))
 
@@ -40,7 +36,7 @@ keys_in no_members = []
 keys_in (member key d others) = key ∷ keys_in others
 
 -- nothing where a part is not written
-abbrev pub where_written : {X : Type 0} → Option Data → (Data → Reading (List X)) → Reading (List X)
+abbrev pub where_written : {X : Type 0} → Option Data → (Data → Result (List X) PolicyError) → Result (List X) PolicyError
 where_written None read = Ok []
 where_written (Some d) read = read d
 
@@ -62,21 +58,21 @@ is_key_of part key = list_any (pointwise nat_eq key) (keys_of part)
 abbrev pub extra_key : Part → Members → Option ℕ
 extra_key part table = position_from (λ row. not (is_key_of part row.0)) 1 (rows_of table)
 
-abbrev pub extra_in_row : Place → Option ℕ → Reading (Unit {0})
+abbrev pub extra_in_row : Place → Option ℕ → Result (Unit {0}) PolicyError
 extra_in_row place None = Ok tt
 extra_in_row place (Some _) = Err (Extra place)
 
 -- a row's table, which has no key but the part's
-abbrev pub row_table : Part → ℕ → Data → Reading Members
+abbrev pub row_table : Part → ℕ → Data → Result Members PolicyError
 row_table part row d =
     ok_or (as_table d) (WrongKind (row_of part row)) >>= (λ table.
     extra_in_row (row_of part row) (extra_key part table) >>= (λ _. Ok table))
 
 -- the text at a key that has to be there
-abbrev pub text_at : List ℕ → Place → Members → Reading (List ℕ)
+abbrev pub text_at : List ℕ → Place → Members → Result (List ℕ) PolicyError
 text_at key place table = ok_or (get_member key table) (Missing place) >>= (λ d. ok_or (as_str d) (WrongKind place))
 
--- the answer is what the definition reads, want of memory aside
-abbrev pub Reads : {T X : Type 0} → (T → X) → Reading X → Result T PolicyError → Type 0
+-- the answer is what the definition reads, unless there was no memory
+abbrev pub Reads : {T X : Type 0} → (T → X) → Result X PolicyError → Result T PolicyError → Type 0
 Reads shown read (Ok x) = read ≡ Ok (shown x)
 Reads shown read (Err fault) = fault ≢ NoMemory → read ≡ Err fault

@@ -7,7 +7,7 @@ ghost use Rattle.toml.specs.View.{view, table_view};
 ghost use Rattle.label_lattice.specs.Order.{place_of};
 ghost use Rattle.trapeze_io.specs.Names.{Ascend};
 ghost use Rattle.policy_toml.specs.Rows.{Reads, each_row, rows_of};
-ghost use Rattle.policy_toml.specs.Steps.{function_row, functions_of, function_at, IsFunction};
+ghost use Rattle.policy_toml.specs.Stages.{function_row, functions_of, function_at, IsFunction};
 
 use crate::error::PolicyError;
 use crate::place::{Part, Place};
@@ -34,7 +34,7 @@ impl Model for Function {
 }
 
 /// The functions in byte order of their names, with their file names.
-#[tactic(auto, unfolding(crate::specs::Steps::functions_of))]
+#[tactic(auto, unfolding(crate::specs::Stages::functions_of))]
 pub fn functions(alloc: Global, root: &Table) -> Result<Vec<Function>, PolicyError>
     ensures read { Reads (λ rows. rows.items) (functions_of (table_view root.now)) result }
     ensures ascend { IfOk result (λ rows. Ascend (map (λ row. row.0) rows.items)) }

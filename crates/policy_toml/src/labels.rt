@@ -2,9 +2,8 @@
 
 ghost use Rattle.std.specs.Prelude.{◌≡◌, IfOk, option_map};
 ghost use Rattle.toml.specs.View.{view, items_view, table_view};
-ghost use Rattle.label_lattice.specs.Faults.{Denotes};
 ghost use Rattle.policy_toml.specs.Rows.{Reads, each_row, items_of};
-ghost use Rattle.policy_toml.specs.Steps.{label_row, labels_of, flow_row, pair_of, flows_of, lattice_of};
+ghost use Rattle.policy_toml.specs.Stages.{label_row, labels_of, flow_row, pair_of, flows_of, lattice_of};
 
 use crate::error::PolicyError;
 use crate::place::{Part, Place};
@@ -15,7 +14,7 @@ use toml::{Table, Value};
 use trapeze_io::Bytes;
 
 /// The labels in order.
-#[tactic(auto, unfolding(crate::specs::Steps::labels_of))]
+#[tactic(auto, unfolding(crate::specs::Stages::labels_of))]
 pub fn labels(alloc: Global, root: &Table) -> Result<Vec<Bytes>, PolicyError>
     ensures { Reads (λ labels. labels.items) (labels_of (table_view root.now)) result }
 {
@@ -52,7 +51,7 @@ fn label_row(alloc: Global, row: u64, value: &Value) -> Result<Bytes, PolicyErro
 }
 
 /// The pairs of labels of which the first flows to the second.
-#[tactic(auto, unfolding(crate::specs::Steps::flows_of))]
+#[tactic(auto, unfolding(crate::specs::Stages::flows_of))]
 pub fn flows(alloc: Global, root: &Table) -> Result<Vec<(Bytes, Bytes)>, PolicyError>
     ensures { Reads (λ flows. flows.items) (flows_of (table_view root.now)) result }
 {
@@ -103,14 +102,13 @@ fn two_texts<'a>(value: &'a Value) -> Option<(&'a str, &'a str)>
 }
 
 /// The lattice of the labels and flows.
-#[tactic(auto, unfolding(crate::specs::Steps::lattice_of))]
+#[tactic(auto, unfolding(crate::specs::Stages::lattice_of))]
 pub fn lattice(
     alloc: Global,
     labels: &[Bytes],
     flows: &[(Bytes, Bytes)],
 ) -> Result<Lattice, PolicyError>
-    ensures fault { Reads (λ lattice. tt) (lattice_of labels.now flows.now) result }
-    ensures lattice { IfOk result (Denotes labels.now flows.now) }
+    ensures read { Reads (λ lattice. lattice) (lattice_of labels.now flows.now) result }
     ensures names { IfOk result (λ lattice. lattice.names ≡ labels.now) }
 {
     match Lattice::build(alloc, labels, flows) {

@@ -1,8 +1,8 @@
 //! Reading a policy.
 
-ghost use Rattle.std.specs.Prelude.{◌≡◌, ◌≢◌, IfOk, IfErr, Err};
 ghost use Rattle.toml.specs.View.{table_view};
-ghost use Rattle.policy_toml.specs.PolicyOf.{policy_of, table_policy, IsRead};
+ghost use Rattle.policy_toml.specs.Rows.{Reads};
+ghost use Rattle.policy_toml.specs.PolicyOf.{policy_of, table_policy};
 
 use crate::channels::channels;
 use crate::clients::{clients, names_and_clearances};
@@ -28,8 +28,7 @@ use toml::Table;
 /// the functions; the channels; the clients; the gates. In a part the whole comes first and then its rows, lists in their order
 /// and tables in byte order of their keys; in a row its key, its kind, a key that it does not have, and then its fields.
 pub fn read_policy(alloc: Global, bytes: &[u8]) -> Result<Policy, PolicyError>
-    ensures ok { IfOk result (λ policy. IsRead policy (policy_of bytes.now)) }
-    ensures fault { IfErr result (λ e. e ≢ PolicyError.NoMemory → policy_of bytes.now ≡ Err e) }
+    ensures { Reads (λ policy. policy) (policy_of bytes.now) result }
 {
     let root = document(alloc, bytes)?;
     read_table(alloc, &root)
@@ -37,8 +36,7 @@ pub fn read_policy(alloc: Global, bytes: &[u8]) -> Result<Policy, PolicyError>
 
 #[tactic(auto, unfolding(crate::specs::PolicyOf::table_policy))]
 fn read_table(alloc: Global, root: &Table) -> Result<Policy, PolicyError>
-    ensures ok { IfOk result (λ policy. IsRead policy (table_policy (table_view root.now))) }
-    ensures fault { IfErr result (λ e. e ≢ PolicyError.NoMemory → table_policy (table_view root.now) ≡ Err e) }
+    ensures { Reads (λ policy. policy) (table_policy (table_view root.now)) result }
 {
     root_keys(root)?;
     let labels = labels(alloc, root)?;

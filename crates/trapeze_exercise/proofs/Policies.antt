@@ -7,7 +7,7 @@ use Rattle.label_lattice.specs.Order.{count}
 use Rattle.label_lattice.specs.Faults.{Denotes}
 use Rattle.label_limits.specs.Ranges.{AreWithin}
 use Rattle.trapeze_io.specs.Names.{Ascend}
-use Rattle.policy_toml.specs.Steps.{IsFunction, IsClient, IsChannel, IsGate}
+use Rattle.policy_toml.specs.Stages.{IsFunction, IsClient, IsChannel, IsGate}
 use Rattle.policy_toml.specs.Parts.{Parts, IsPolicy}
 use Rattle.policy_toml.specs.PolicyOf.{IsAsWritten}
 use Rattle.policy_toml.proofs.Whole.{is_policy}
