@@ -35,7 +35,7 @@ pub record Uses (old new : Reader) (entry : Entry) : Type 0 where
   pub same : new ≡ record old { kept = new.kept; lines = old.lines + 1 }
 
 -- a line and those below it, of which the line is whole or too long already
-pub record IsReady (line : List ℕ) (below : List (List ℕ)) : Type 0 where
+pub record IsWholeOrLong (line : List ℕ) (below : List (List ℕ)) : Type 0 where
   pub ready : (below ≢ []) ⊎ (is_too_long line ≡ true)
 
 -- the next line, which is whole or too long already, is this bad one
@@ -43,7 +43,7 @@ pub record Stops (old new : Reader) (bad : LineError) : Type 0 where
   pub line : List ℕ
   pub below : List (List ℕ)
   pub lines : lines_of old.kept ≡ line ∷ below
-  pub ready : IsReady line below
+  pub ready : IsWholeOrLong line below
   pub faulty : said_by old line ≡ Err bad.fault
   pub number : bad.line ≡ old.lines + 1
   pub same : new ≡ record old { bad = Some bad }

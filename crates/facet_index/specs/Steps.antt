@@ -2,8 +2,8 @@
 use Rattle.std.specs.Prelude.{◌≡◌, ◌<◌, ◌≤◌, ℕ, Bool, List, [], ◌∷◌, Option, None, Some, length, take, if◌then◌else◌}
 use Rattle.label_limits.specs.declared.limits.Limits.{Limits}
 use Rattle.facet_list.specs.Store.{Write as Written, written}
-use Rattle.facet_list.specs.Rows.{Rows, row_of, rows_after, read_row, IsValue}
-use Rattle.trapeze_io.specs.Sizes.{IsKey}
+use Rattle.facet_list.specs.Rows.{Rows, row_of, rows_after, read_row}
+use Rattle.trapeze_io.specs.Sizes.{IsKey, IsValue}
 use Rattle.facet_list.specs.Room.{fits_in}
 use Rattle.facet_index.specs.declared.steps.StoreStep.{StoreStep}
 use Rattle.facet_index.specs.declared.steps.StoreStep.TheVariants.{Write, Read}

@@ -3,8 +3,8 @@
 ghost use Rattle.std.specs.Prelude.{◌≡◌, ◌+◌, ℕ, List, All, OnOk, OnErr, option_map};
 ghost use Rattle.std.specs.Option.{option_copied};
 ghost use Rattle.facet_list.specs.Store.{written};
-ghost use Rattle.facet_list.specs.Rows.{row_of, rows_after, facet_at, value_length, IsValue, IsSized};
-ghost use Rattle.trapeze_io.specs.Sizes.{IsKey};
+ghost use Rattle.facet_list.specs.Rows.{row_of, rows_after, facet_at, IsSized};
+ghost use Rattle.trapeze_io.specs.Sizes.{IsKey, value_length, IsValue};
 ghost use Rattle.facet_list.specs.Room.{size};
 ghost use Rattle.facet_index.specs.Rows.{rows_in};
 

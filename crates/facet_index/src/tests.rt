@@ -2,8 +2,7 @@
 
 ghost use Rattle.std.specs.Prelude.{◌<◌, All, IfOk};
 ghost use Rattle.std.specs.Option.{option_copied};
-ghost use Rattle.facet_list.specs.Rows.{IsValue};
-ghost use Rattle.trapeze_io.specs.Sizes.{IsKey};
+ghost use Rattle.trapeze_io.specs.Sizes.{IsKey, IsValue};
 ghost use Rattle.facet_index.specs.Steps.{IsFitStep};
 
 use crate::{FacetIndex, StoreAnswer, StoreStep, play_steps};

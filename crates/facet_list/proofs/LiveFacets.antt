@@ -10,7 +10,7 @@ use Rattle.std.proofs.lemmas.List.Sums.{sum_by-cons}
 use Rattle.label_limits.specs.declared.limits.Limits.{Limits}
 use Rattle.facet_list.specs.Store.{Slot, slot_cmp, Write, Facet}
 use Rattle.facet_list.specs.Rows.{Rows, rows_of, rows_after, facets_in}
-use Rattle.facet_list.specs.Room.{at_label, live_in, size, is_within, fits_in, fits}
+use Rattle.facet_list.specs.Room.{at_label, live_in, size, are_within, fits_in, fits}
 use Rattle.facet_list.proofs.Truths.{first, second, both, less}
 use Rattle.facet_list.proofs.Slots.{slots_total, exact_slot, seen_put}
 use Rattle.facet_list.proofs.RowLaws.{rows_of-push}
@@ -75,4 +75,4 @@ live_sum rows x = ap (sum_by size) (live_after x.label rows x refl) ∙ weight_p
 
 -- whether a write fits after writes is told by their rows
 pub fits_of : (limits : List Limits) (w : List Write) (x : Write) → fits_in limits (rows_of w) x ≡ fits limits w x
-fits_of limits w x = ap (λ fs. is_within (slice_get limits x.label) (at_label x.label fs)) (ap facets_in (sym (rows_of-push w x)) ∙ facets_in_of (w ++ x ∷ []))
+fits_of limits w x = ap (λ fs. are_within (slice_get limits x.label) (at_label x.label fs)) (ap facets_in (sym (rows_of-push w x)) ∙ facets_in_of (w ++ x ∷ []))

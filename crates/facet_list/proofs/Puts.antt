@@ -6,7 +6,7 @@ use Rattle.std.proofs.lemmas.List.{append-nil}
 use Rattle.std.proofs.lemmas.List.Elements.{filter-append}
 use Rattle.label_limits.specs.declared.limits.Limits.{Limits}
 use Rattle.facet_list.specs.Store.{Write, Facet, facets}
-use Rattle.facet_list.specs.Room.{live, is_within, fits}
+use Rattle.facet_list.specs.Room.{live, are_within, fits}
 use Rattle.facet_list.specs.Puts.{store_after, refused_of, play, refused, AreNoninterferingPuts}
 use Rattle.facet_list.specs.Views.{visible_writes}
 use Rattle.facet_list.proofs.Slots.{noninterfering}
@@ -32,7 +32,7 @@ module _ (flows : ℕ → ℕ → Bool) (o : ℕ) where
 
   module _ (limits : List Limits) where
     fits_seen : (w : List Write) (x : Write) → flows x.label o ≡ true → fits limits (visible_writes flows o w) x ≡ fits limits w x
-    fits_seen w x seen = ap (is_within (slice_get limits x.label)) (ap (live x.label) (sym (seen_push w x true seen)) ∙ live_seen x.label seen (w ++ x ∷ []))
+    fits_seen w x seen = ap (are_within (slice_get limits x.label)) (ap (live x.label) (sym (seen_push w x true seen)) ∙ live_seen x.label seen (w ++ x ∷ []))
 
     either : {A B : Type 0} (f : A → B) (b : Bool) (x y : A) → f (cond b x y) ≡ cond b (f x) (f y)
     either f true x y = refl

@@ -13,7 +13,8 @@ use Rattle.std.proofs.lemmas.List.Elements.{All-nil, All-cons, All-head, All-tai
 use Rattle.std.proofs.lemmas.List.Kept.{AllPairs-filter}
 use Rattle.std.proofs.lemmas.List.Quantifiers.{all_pairs_push}
 use Rattle.facet_list.specs.Store.{Slot, slot_cmp, Write, last_value}
-use Rattle.facet_list.specs.Rows.{Rows, Row, Member, row_of, row_after, rows_after, rows_from, rows_of, key_cmp, member, facet_at, read_row, IsSized, IsValue, IsStore, AreBelow}
+use Rattle.trapeze_io.specs.Sizes.{IsValue}
+use Rattle.facet_list.specs.Rows.{Rows, Row, Member, row_of, row_after, rows_after, rows_from, rows_of, key_cmp, member, facet_at, read_row, IsSized, IsStore, AreBelow}
 use Rattle.facet_list.proofs.Slots.{slots_total}
 use Rattle.facet_list.proofs.RowLaws.{row_of-after, rows_of-push}
 use Rattle.facet_list.proofs.FacetLaws.{facet_at-after}

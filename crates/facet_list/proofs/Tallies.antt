@@ -8,7 +8,7 @@ use Rattle.label_lattice.specs.declared.label.Label.{Label}
 use Rattle.label_limits.specs.declared.limits.Limits.{Limits}
 use Rattle.facet_list.specs.Store.{Slot, slot_cmp, Write, Facet}
 use Rattle.facet_list.specs.Rows.{rows_of, rows_after, facets_in}
-use Rattle.facet_list.specs.Room.{at_label, live_in, size, is_within, fits_in}
+use Rattle.facet_list.specs.Room.{at_label, live_in, size, are_within, fits_in}
 use Rattle.facet_list.specs.Kept.{chosen}
 use Rattle.facet_list.proofs.Slots.{seen_after}
 use Rattle.facet_list.proofs.RowFacets.{facets_in_of}
@@ -89,7 +89,7 @@ live_chosen l w = ap (at_label l.number) (facets_in_of w) ∙ seen_after (λ (s 
 pub room : (l : Label) (w : List Write) (x : Write) (limits : Limits) → x.label ≡ l.number
     → (nat_le (1 + length (others (x.key, x.label) (facets_in (rows_of (chosen (Some l) w))))) limits.facets
     && nat_le (size ((x.key, x.label), x.value) + sum_by size (others (x.key, x.label) (facets_in (rows_of (chosen (Some l) w))))) limits.bytes)
-    ≡ is_within (Some limits) (live_in x.label (rows_after (rows_of w) x))
+    ≡ are_within (Some limits) (live_in x.label (rows_after (rows_of w) x))
 room l w x limits e =
     let s : Slot = (x.key, x.label) in
     let same : facets_in (rows_of (chosen (Some l) w)) ≡ live_in x.label (rows_of w) = sym (ap (λ k. live_in k (rows_of w)) e ∙ live_chosen l w) in
@@ -98,7 +98,7 @@ room l w x limits e =
     ∙ ap (λ k. nat_le (length (live_in x.label (rows_after (rows_of w) x))) limits.facets && nat_le k limits.bytes) (sym (live_sum (rows_of w) x))
 
 pub fits_told : (limits : List Limits) (w u : List Write) (x : Write) (one : Limits) (i : ℕ) (b : Bool) → i ≡ x.label → x.label < length limits → one ≡ get_or limits i one → u ≡ w
-    → b ≡ is_within (Some one) (live_in x.label (rows_after (rows_of u) x)) → fits_in limits (rows_of w) x ≡ b
+    → b ≡ are_within (Some one) (live_in x.label (rows_after (rows_of u) x)) → fits_in limits (rows_of w) x ≡ b
 fits_told limits w u x one i b at lt is same told =
-    ap (λ o. is_within o (live_in x.label (rows_after (rows_of w) x))) (slice_get-get_or limits x.label one lt ∙ ap Some (ap (λ k. get_or limits k one) (sym at) ∙ sym is))
-    ∙ ap (λ y. is_within (Some one) (live_in x.label (rows_after (rows_of y) x))) (sym same) ∙ sym told
+    ap (λ o. are_within o (live_in x.label (rows_after (rows_of w) x))) (slice_get-get_or limits x.label one lt ∙ ap Some (ap (λ k. get_or limits k one) (sym at) ∙ sym is))
+    ∙ ap (λ y. are_within (Some one) (live_in x.label (rows_after (rows_of y) x))) (sym same) ∙ sym told

@@ -4,7 +4,8 @@ use Rattle.label_limits.specs.declared.limits.Limits.{Limits}
 use Rattle.label_limits.specs.declared.meter.Count.{Count}
 use Rattle.label_limits.specs.Counting.{has_room}
 use Rattle.facet_list.specs.Store.{Write, Facet, facets}
-use Rattle.facet_list.specs.Rows.{Rows, rows_after, facets_in, value_length}
+use Rattle.trapeze_io.specs.Sizes.{value_length}
+use Rattle.facet_list.specs.Rows.{Rows, rows_after, facets_in}
 
 -- the facets at a label, of all facets
 abbrev pub at_label : ℕ → List Facet → List Facet
@@ -19,21 +20,21 @@ abbrev pub tally : List Facet → Count
 tally fs = record { facets = length fs; bytes = sum_by size fs }
 
 -- the facets are within the limits, by their number and their sizes
-abbrev pub is_within : Option Limits → List Facet → Bool
-is_within limits fs = has_room limits (tally fs)
+abbrev pub are_within : Option Limits → List Facet → Bool
+are_within limits fs = has_room limits (tally fs)
 
 -- the live facets at a label, of rows
 abbrev pub live_in : ℕ → Rows → List Facet
 live_in l rows = at_label l (facets_in rows)
 
--- a write fits in rows where the live facets at its label after it are within the limits of this label
+-- a write that fits, in rows: the live facets at its label after it are within the limits of this label
 abbrev pub fits_in : List Limits → Rows → Write → Bool
-fits_in limits rows x = is_within (slice_get limits x.label) (live_in x.label (rows_after rows x))
+fits_in limits rows x = are_within (slice_get limits x.label) (live_in x.label (rows_after rows x))
 
 -- the live facets at a label, of writes: for each key written at exactly this label, the last write of it there
 abbrev pub live : ℕ → List Write → List Facet
 live l w = at_label l (facets w)
 
--- a write fits after the writes made so far where the live facets at its label after it are within the limits of this label
+-- a write that fits, after the writes made so far: the live facets at its label after it are within the limits of this label
 abbrev pub fits : List Limits → List Write → Write → Bool
-fits limits w x = is_within (slice_get limits x.label) (live x.label (w ++ x ∷ []))
+fits limits w x = are_within (slice_get limits x.label) (live x.label (w ++ x ∷ []))

@@ -5,7 +5,7 @@ use Rattle.std.specs.declared.cmp.Ordering.{Ordering}
 use Rattle.std.specs.Ordering.{nat_cmp}
 use Rattle.std.specs.Cmp.Lexicographic.{slice_cmp}
 use Rattle.std.specs.FinMap as finite
-use Rattle.trapeze_io.specs.Sizes.{IsKey, longest_value}
+use Rattle.trapeze_io.specs.Sizes.{IsKey, IsValue}
 use Rattle.facet_list.specs.Store.{Write, Slot, Facet, slot_cmp, last_value}
 
 -- a label and its value or absent
@@ -42,7 +42,7 @@ rows_from rows (x ∷ w) = rows_from (rows_after rows x) w
 abbrev pub rows_of : List Write → Rows
 rows_of w = rows_from finite.empty w
 
--- the value of the last member whose label flows to c, absent where there is none
+-- the latest visible facet of a row: the value of the last member whose label flows to c, absent where there is none
 abbrev pub read_row : (ℕ → ℕ → Bool) → ℕ → Row → Option (List ℕ)
 read_row flows c row = last_value None (map (λ m. m.1) (filter (λ m. flows m.0 c) row))
 
@@ -62,15 +62,6 @@ facets_of e = map (λ m. ((e.0, m.0), m.1)) e.1
 -- the live facets of the rows, by key in byte order and then by label
 abbrev pub facets_in : Rows → List Facet
 facets_in rows = finite.entries (finite.from_entries {R = slot_cmp} (flat_map facets_of (finite.entries rows)))
-
--- the length of a value, 0 for absent
-abbrev pub value_length : Option (List ℕ) → ℕ
-value_length None = 0
-value_length (Some v) = length v
-
--- a value is no longer than a value may be
-abbrev pub IsValue : Option (List ℕ) → Type 0
-IsValue value = value_length value ≤ longest_value
 
 -- the key and the value are within their sizes
 pub record IsSized (key : List ℕ) (value : Option (List ℕ)) : Type 0 where

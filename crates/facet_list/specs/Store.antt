@@ -25,7 +25,8 @@ last_value found (v ∷ vs) = last_value v vs
 abbrev pub readable : (ℕ → ℕ → Bool) → ℕ → List ℕ → List Write → List Write
 readable flows c key w = filter (λ x. pointwise nat_eq key x.key && flows x.label c) w
 
--- a read of the key at c: the value of the last write of the key whose label flows to c, absent where there is none
+-- the latest visible facet: a read of the key at c gives the value of the last write of the key whose label flows to c, absent
+-- where there is none
 abbrev pub read : (ℕ → ℕ → Bool) → ℕ → List ℕ → List Write → Option (List ℕ)
 read flows c key w = last_value None (map (λ x. x.value) (readable flows c key w))
 

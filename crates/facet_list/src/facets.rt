@@ -6,8 +6,8 @@ ghost use Rattle.label_lattice.specs.Order.{count};
 ghost use Rattle.label_lattice.specs.Reach.{flows};
 ghost use Rattle.label_limits.specs.declared.limits.Limits.{Limits as LabelLimits};
 ghost use Rattle.facet_list.specs.Store.{written};
-ghost use Rattle.facet_list.specs.Rows.{Rows, row_of, rows_after, read_row, IsValue, IsSized, IsStore};
-ghost use Rattle.trapeze_io.specs.Sizes.{IsKey};
+ghost use Rattle.facet_list.specs.Rows.{Rows, row_of, rows_after, read_row, IsSized, IsStore};
+ghost use Rattle.trapeze_io.specs.Sizes.{IsKey, IsValue};
 ghost use Rattle.facet_list.specs.Room.{fits_in};
 ghost use Rattle.facet_list.specs.Walk.{slot_after, facet_lent, IsNext};
 
@@ -32,15 +32,16 @@ pub trait Facets: Drop {
     /// The limits of each label.
     ghost limits: { Self → List LabelLimits };
 
-    /// The value of the key's latest facet whose label flows to `at`: None where there is none or where it is absent.
+    /// The latest visible facet: the value of the last write to the key whose label flows to `at`, None where there is none or
+    /// where it is absent.
     fn read(&self, lattice: &Lattice, at: Label, key: &[u8]) -> Option<&[u8]>
         requires at { at.number < count lattice.now }
         requires labels { count lattice.now ≡ length (limits self.now) }
         ensures value { option_copied result ≡ read_row (flows lattice.now) at.number (row_of (rows self.now) key.now) }
         ensures sized { IsValue (option_copied result) };
 
-    /// Writes the key at a label, None for absent. `Full` exactly where the write does not fit: the live facets at the label after it
-    /// would number more than its `facets`, or their sizes sum to more than its `bytes`.
+    /// Writes the key at a label, None for absent. `Full` for all but a write that fits: for one after which the
+    /// live facets at the label would number more than its `facets`, or their sizes sum to more than its `bytes`.
     fn write(&mut self, at: Label, key: &[u8], value: Option<&[u8]>) -> Result<Wrote, NoMemory>
         requires at { at.number < length (limits self.old) }
         requires key { IsKey key.now }

@@ -4,7 +4,7 @@ ghost use Rattle.std.specs.Prelude.{◌≡◌, ◌-◌, ◌^◌, ◌&&◌, ℕ, 
 ghost use Rattle.std.specs.Option.{option_copied};
 ghost use Rattle.facet_list.specs.Store.{written};
 ghost use Rattle.facet_list.specs.Rows.{rows_of, rows_after};
-ghost use Rattle.facet_list.specs.Room.{live_in, is_within};
+ghost use Rattle.facet_list.specs.Room.{live_in, are_within};
 
 use crate::scan::next;
 use crate::write::{Write, size_of};
@@ -19,7 +19,7 @@ pub(crate) fn fits(
     key: &[u8],
     value: Option<&[u8]>,
 ) -> bool
-    ensures { result ≡ is_within (Some limits) (live_in at.number (rows_after (rows_of writes.now) (written at.number key.now (option_copied value.entry)))) }
+    ensures { result ≡ are_within (Some limits) (live_in at.number (rows_after (rows_of writes.now) (written at.number key.now (option_copied value.entry)))) }
 {
     let mut count: u64 = 1;
     let mut bytes = size_of(key, value);

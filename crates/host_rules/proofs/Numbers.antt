@@ -12,7 +12,7 @@ use Rattle.host_rules.specs.Calls.{Effect, Nothing, AWrite, AMessage, AReply, AR
 use Rattle.host_rules.specs.Effects.{write, arrive, reply, apply}
 use Rattle.host_rules.specs.Turns.{End, Ended, Trapped, Raised, Spent, Stint, after_call, after_unit, stint, given, closing, run, run_from, turn_of}
 use Rattle.host_rules.specs.Play.{step}
-use Rattle.host_rules.specs.Laws.{Steps, RaisesByOne}
+use Rattle.host_rules.specs.Laws.{StaysOrRises, RaisesByOne}
 use Rattle.host_rules.proofs.Lists.{at_set, of_branch}
 
 module _ {T : Type 0} (P : Rules) where
@@ -79,23 +79,23 @@ module _ {T : Type 0} (P : Rules) where
     keeps_front c number [] s = keeps_same s
     keeps_front c number (a ∷ others) s = keeps_from c number a a.thread s
 
-    still_steps : (f g : ℕ → ℕ) (l : ℕ) → g ≡ f → Steps (f l) (g l)
-    still_steps f g l e = subst (λ (g : ℕ → ℕ). Steps (f l) (g l)) (sym e) (omega arith, omega arith)
+    still_steps : (f g : ℕ → ℕ) (l : ℕ) → g ≡ f → StaysOrRises (f l) (g l)
+    still_steps f g l e = subst (λ (g : ℕ → ℕ). StaysOrRises (f l) (g l)) (sym e) (omega arith, omega arith)
 
-    raised_steps : (f g : ℕ → ℕ) (c l : ℕ) → g ≡ set_at f c (f c + 1) → Steps (f l) (g l)
-    raised_steps f g c l e = subst (λ (g : ℕ → ℕ). Steps (f l) (g l)) (sym e)
-        (at_set (λ n. Steps (f l) n) f c (f c + 1) l (λ e. subst (λ k. Steps (f k) (f c + 1)) (sym e) (omega arith, omega arith)) (omega arith, omega arith))
+    raised_steps : (f g : ℕ → ℕ) (c l : ℕ) → g ≡ set_at f c (f c + 1) → StaysOrRises (f l) (g l)
+    raised_steps f g c l e = subst (λ (g : ℕ → ℕ). StaysOrRises (f l) (g l)) (sym e)
+        (at_set (λ n. StaysOrRises (f l) n) f c (f c + 1) l (λ e. subst (λ k. StaysOrRises (f k) (f c + 1)) (sym e) (omega arith, omega arith)) (omega arith, omega arith))
 
     pub raises_by_one : RaisesByOne P M
     raises_by_one = record { turns = turns; requests = requests }
       where
-        turns : (s : State T) (i : Item) (l : ℕ) → Steps (s.turns l) ((step P M s i).state.turns l)
+        turns : (s : State T) (i : Item) (l : ℕ) → StaysOrRises (s.turns l) ((step P M s i).state.turns l)
         turns s (Happens (Put label key value)) l = still_steps s.turns _ l (keeps_write (written label.number key value) s).turns
         turns s (Happens (Ask label client function id body)) l = still_steps s.turns _ l (keeps_arrive label.number label.number (fresh function body (Some (record { request = record { label = label.number; number = s.requests label.number + 1 }; client = client; id = id }))) (count_request s label.number)).turns
         turns s (Happens (Turn label)) l = raised_steps s.turns _ label.number l (keeps_front label.number (s.turns label.number + 1) (s.lists label.number) (count_turn s label.number)).turns
         turns s (Out gate bytes) l = still_steps s.turns _ l (keeps_arrive gate.target.number gate.source.number (fresh gate.function bytes None) s).turns
 
-        requests : (s : State T) (i : Item) (l : ℕ) → Steps (s.requests l) ((step P M s i).state.requests l)
+        requests : (s : State T) (i : Item) (l : ℕ) → StaysOrRises (s.requests l) ((step P M s i).state.requests l)
         requests s (Happens (Put label key value)) l = still_steps s.requests _ l (keeps_write (written label.number key value) s).requests
         requests s (Happens (Ask label client function id body)) l = raised_steps s.requests _ label.number l (keeps_arrive label.number label.number (fresh function body (Some (record { request = record { label = label.number; number = s.requests label.number + 1 }; client = client; id = id }))) (count_request s label.number)).requests
         requests s (Happens (Turn label)) l = still_steps s.requests _ l (keeps_front label.number (s.turns label.number + 1) (s.lists label.number) (count_turn s label.number)).requests

@@ -7,7 +7,7 @@ use Rattle.std.proofs.lemmas.List.{append-nil}
 use Rattle.std.proofs.lemmas.List.Elements.{filter-append}
 use Rattle.facet_list.specs.Store.{Write, Facet, facets, last_value}
 use Rattle.facet_list.specs.Rows.{rows_of, rows_after, row_of, read_row, facets_in}
-use Rattle.facet_list.specs.Room.{is_within, live}
+use Rattle.facet_list.specs.Room.{are_within, live}
 use Rattle.facet_list.specs.Views.{visible_facets}
 use Rattle.facet_list.proofs.RowLaws.{rows_of-push, read_rows_of}
 use Rattle.facet_list.proofs.RowFacets.{facets_in_of}
@@ -67,7 +67,7 @@ module _ (P : Rules) (o : ℕ) where
 
   pub fits_alike : (w v : List Write) (x : Write) → P.flows x.label o ≡ true → AreAlike w v → fits P w x ≡ fits P v x
   fits_alike w v x seen same =
-      ap (is_within (slice_get P.limits x.label))
+      ap (are_within (slice_get P.limits x.label))
       (sym (live_visible x.label seen (w ++ x ∷ []))
       ∙ ap (filter (λ f. f.0.1 == x.label)) (facets_same (visible_writes P o (w ++ x ∷ [])) (visible_writes P o (v ++ x ∷ [])) (seen_push w v x seen same))
       ∙ live_visible x.label seen (v ++ x ∷ []))

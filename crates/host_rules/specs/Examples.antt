@@ -27,22 +27,22 @@ pub data Act : Type 0 where
   Asks : HostName → List ℕ → Act
 
 -- the acts that are left, the memory, and the last answer
-pub record Script : Type 0 where
+pub record Acting : Type 0 where
   pub acts : List Act
   pub memory : List ℕ
   pub last : List ℕ
 
-abbrev pub unit_of_script : Script → OneUnit Script
+abbrev pub unit_of_script : Acting → OneUnit Acting
 unit_of_script t = act t.acts
   where
-    act : List Act → OneUnit Script
+    act : List Act → OneUnit Acting
     act [] = Done
     act (Works ∷ rest) = Goes (record t { acts = rest })
     act (Spins ∷ rest) = Goes t
     act (Asks name operands ∷ rest) = Calls (record { name = name; args = operands ++ t.last }) (record t { acts = rest })
 
 -- each function has a script and a memory to begin with, and needs two pages
-abbrev pub scripts : List Script → Guest Script
+abbrev pub scripts : List Acting → Guest Acting
 scripts functions = record {
   begin = λ f. slice_index_or functions f (record { acts = []; memory = []; last = [] });
   minimum = λ f. 2;
@@ -92,7 +92,7 @@ village limits = record {
 }
 
 -- a function that follows this script, over a memory with the names of the channel, of alice and of the gate, and two bytes
-abbrev pub follows : List Act → Script
+abbrev pub follows : List Act → Acting
 follows acts = record { acts = acts; memory = codes "calicegHI"; last = [] }
 
 -- it reads the key `g` into the two bytes and replies with as many as there are
@@ -145,7 +145,7 @@ abbrev pub ask_second_at : ℕ → Event
 ask_second_at l = Ask (label_of l) 0 1 (codes "r") (codes "in")
 
 -- the guest whose first and second function follow these acts
-abbrev pub guest : List Act → List Act → Guest Script
+abbrev pub guest : List Act → List Act → Guest Acting
 guest first second = scripts (follows first ∷ follows second ∷ [])
 
 -- what is told of events under these limits

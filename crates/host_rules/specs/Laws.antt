@@ -23,8 +23,8 @@ pub record IsEquivalence (T : Type 0) (P : Rules) (o : ℕ) : Type 0 where
   pub transitive : (s t u : State T) → Same P o s t → Same P o t u → Same P o s u
 
 -- a number stays or rises by one
-abbrev pub Steps : ℕ → ℕ → Type 0
-Steps before after = (before ≤ after) × (after ≤ before + 1)
+abbrev pub StaysOrRises : ℕ → ℕ → Type 0
+StaysOrRises before after = (before ≤ after) × (after ≤ before + 1)
 
 -- a move looks to o as another one: the visible lines are equal, and the states after them are the same to o
 pub record LooksLike {T : Type 0} (P : Rules) (o : ℕ) (x y : Moved T) : Type 0 where
@@ -65,8 +65,8 @@ module _ {T : Type 0} (P : Rules) (M : Guest T) where
 
   -- no step raises a turn or request number by more than one, or lowers one
   pub record RaisesByOne : Type 0 where
-    pub turns : (s : State T) (i : Item) (l : ℕ) → Steps (s.turns l) ((step P M s i).state.turns l)
-    pub requests : (s : State T) (i : Item) (l : ℕ) → Steps (s.requests l) ((step P M s i).state.requests l)
+    pub turns : (s : State T) (i : Item) (l : ℕ) → StaysOrRises (s.turns l) ((step P M s i).state.turns l)
+    pub requests : (s : State T) (i : Item) (l : ℕ) → StaysOrRises (s.requests l) ((step P M s i).state.requests l)
 
   -- what o sees of items from any store is what it sees of the others from the writes that it sees: with the facets in the end
   -- and without them, of all lines and of those that a run prints

@@ -4,7 +4,7 @@ use Rattle.std.specs.Prelude.{◌==◌}
 use Rattle.std.specs.Option.{option_or}
 use Rattle.std.proofs.lemmas.Bool.{le-ltb}
 use Rattle.label_lattice.specs.declared.error.LatticeError.{LatticeError}
-use Rattle.label_lattice.specs.Reach.{closes, numbered}
+use Rattle.label_lattice.specs.Reach.{closes, pairs_numbered}
 use Rattle.label_lattice.specs.Rows.{ArePairs, IsClosure, row_flows}
 use Rattle.label_lattice.specs.Joins.{labels}
 use Rattle.label_lattice.specs.Faults.{first_fault, first_of, name_fault, end_fault, order_fault}
@@ -18,24 +18,24 @@ pub same_flows : (n : ℕ) (pairs : List (ℕ × ℕ)) (rows : List ℕ) → Are
 same_flows n pairs rows within closure = λ i a b. flows_closes n pairs rows within closure a b i
 
 module _ (names : List (List ℕ)) (pairs : List (List ℕ × List ℕ)) (some : 0 < length names) (few : length names ≤ 64) where
-  opened : first_fault names pairs ≡ option_or (first_of (name_fault names) (labels (length names))) (option_or (end_fault names pairs) (order_fault (length names) (closes (numbered names pairs))))
+  opened : first_fault names pairs ≡ option_or (first_of (name_fault names) (labels (length names))) (option_or (end_fault names pairs) (order_fault (length names) (closes (pairs_numbered names pairs))))
   opened = gate_open (length names == 0) (nat_lt 64 (length names)) _ ((some_names (length names)).1 some) (le-ltb 64 (length names) few)
 
   -- a fault of the names is the first
   pub fault_of_names : (e : LatticeError) → first_of (name_fault names) (labels (length names)) ≡ Some e → first_fault names pairs ≡ Some e
-  fault_of_names e is = opened ∙ ap (λ o. option_or o (option_or (end_fault names pairs) (order_fault (length names) (closes (numbered names pairs))))) is
+  fault_of_names e is = opened ∙ ap (λ o. option_or o (option_or (end_fault names pairs) (order_fault (length names) (closes (pairs_numbered names pairs))))) is
 
   module _ (named : first_of (name_fault names) (labels (length names)) ≡ None) where
     -- then one of the pairs
     pub fault_of_ends : (e : LatticeError) → end_fault names pairs ≡ Some e → first_fault names pairs ≡ Some e
-    fault_of_ends e is = opened ∙ ap (λ o. option_or o (option_or (end_fault names pairs) (order_fault (length names) (closes (numbered names pairs))))) named
-        ∙ ap (λ o. option_or o (order_fault (length names) (closes (numbered names pairs)))) is
+    fault_of_ends e is = opened ∙ ap (λ o. option_or o (option_or (end_fault names pairs) (order_fault (length names) (closes (pairs_numbered names pairs))))) named
+        ∙ ap (λ o. option_or o (order_fault (length names) (closes (pairs_numbered names pairs)))) is
 
     -- then one of the order
-    pub fault_of_order : (rows : List ℕ) → end_fault names pairs ≡ None → IsClosure (length names) (numbered names pairs) rows → first_fault names pairs ≡ order_fault (length names) (row_flows rows)
-    fault_of_order rows known closure = opened ∙ ap (λ o. option_or o (option_or (end_fault names pairs) (order_fault (length names) (closes (numbered names pairs))))) named
-        ∙ ap (λ o. option_or o (order_fault (length names) (closes (numbered names pairs)))) known
-        ∙ ap (order_fault (length names)) (sym (same_flows (length names) (numbered names pairs) rows (numbered_pairs names pairs) closure))
+    pub fault_of_order : (rows : List ℕ) → end_fault names pairs ≡ None → IsClosure (length names) (pairs_numbered names pairs) rows → first_fault names pairs ≡ order_fault (length names) (row_flows rows)
+    fault_of_order rows known closure = opened ∙ ap (λ o. option_or o (option_or (end_fault names pairs) (order_fault (length names) (closes (pairs_numbered names pairs))))) named
+        ∙ ap (λ o. option_or o (order_fault (length names) (closes (pairs_numbered names pairs)))) known
+        ∙ ap (order_fault (length names)) (sym (same_flows (length names) (pairs_numbered names pairs) rows (numbered_pairs names pairs) closure))
 
 -- an order without a fault is sound
 pub sound : (names : List (List ℕ)) (pairs : List (ℕ × ℕ)) (rows : List ℕ) → AreNames names → ArePairs (length names) pairs → IsClosure (length names) pairs rows

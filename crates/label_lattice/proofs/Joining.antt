@@ -9,7 +9,7 @@ use Rattle.std.proofs.lemmas.List.Quantifiers.{position-Some}
 use Rattle.std.proofs.lemmas.Bool.Decides.{Decides-eqb}
 use Rattle.std.proofs.lemmas.Nat.Bits.{bit_at-lt}
 use Rattle.label_lattice.specs.Order.{place_of}
-use Rattle.label_lattice.specs.Reach.{Reaches, closes, ends_of, numbered}
+use Rattle.label_lattice.specs.Reach.{Reaches, closes, ends_of, pairs_numbered}
 use Rattle.label_lattice.specs.Rows.{ArePairs, bit, IsClosure, IsClosed, row_flows}
 use Rattle.label_lattice.proofs.Reaches.{Reaches-here, Reaches-trans, Reaches-push_old, Reaches-push_new, Reaches-push_cases, Reaches-within, exact_test}
 use Rattle.label_lattice.proofs.Least.{flows_from_bit, flows_itself, or_split}
@@ -30,11 +30,11 @@ no_end names pair a ea eb = ap (option_and_then (λ a. option_map (λ b. (a, b))
 
 -- one more pair, by position
 pub numbered_more : (names : List (List ℕ)) (pairs : List (List ℕ × List ℕ)) (j : ℕ) (d : List ℕ × List ℕ) (p : ℕ × ℕ) → j < length pairs → ends_of names (get_or pairs j d) ≡ Some p
-    → numbered names (take (j + 1) pairs) ≡ numbered names (take j pairs) ++ p ∷ []
+    → pairs_numbered names (take (j + 1) pairs) ≡ pairs_numbered names (take j pairs) ++ p ∷ []
 numbered_more names pairs j d p lt e =
-    ap (numbered names) (take_more pairs j d lt)
+    ap (pairs_numbered names) (take_more pairs j d lt)
     ∙ filter_map-append (ends_of names) (take j pairs) (get_or pairs j d ∷ [])
-    ∙ ap (λ o. numbered names (take j pairs) ++ cons_option o []) e
+    ∙ ap (λ o. pairs_numbered names (take j pairs) ++ cons_option o []) e
 
 one_of : (old by from new : ℕ) → new ≡ max old (min by from) → old < 2 → by < 2 → from < 2 → new ≡ 1 → (old ≡ 1) ⊎ ((by ≡ 1) × (from ≡ 1))
 one_of zero by from new is lo lb lf e = inr (omega arith, omega arith)
@@ -75,11 +75,11 @@ ends_within names pair (Some a) (Some b) ea eb p e =
     let same : (a, b) ≡ p = cc in
     subst (λ (q : ℕ × ℕ). (q.0 < length names) × (q.1 < length names)) same (place_within pair.0 names a ea, place_within pair.1 names b eb)
 
-numbered_within : (names : List (List ℕ)) (pairs : List (List ℕ × List ℕ)) → AreWithin (length names) (numbered names pairs)
+numbered_within : (names : List (List ℕ)) (pairs : List (List ℕ × List ℕ)) → AreWithin (length names) (pairs_numbered names pairs)
 numbered_within names [] = λ k d lt. absurd (omega arith)
-numbered_within names (pair ∷ pairs) = cons_within (length names) (ends_of names pair) (numbered names pairs) (ends_within names pair (place_of pair.0 names) (place_of pair.1 names) refl refl) (numbered_within names pairs)
+numbered_within names (pair ∷ pairs) = cons_within (length names) (ends_of names pair) (pairs_numbered names pairs) (ends_within names pair (place_of pair.0 names) (place_of pair.1 names) refl refl) (numbered_within names pairs)
 
-pub numbered_pairs : (names : List (List ℕ)) (pairs : List (List ℕ × List ℕ)) → ArePairs (length names) (numbered names pairs)
+pub numbered_pairs : (names : List (List ℕ)) (pairs : List (List ℕ × List ℕ)) → ArePairs (length names) (pairs_numbered names pairs)
 numbered_pairs names pairs p (k, lt, is) = subst (λ (q : ℕ × ℕ). (q.0 < length names) × (q.1 < length names)) is (numbered_within names pairs k p lt)
 
 -- the rows of a closure are closed

@@ -11,7 +11,7 @@ use lib.Pointwise.{bytes_decides}
 use Rattle.label_lattice.specs.declared.error.LatticeError.{LatticeError}
 use Rattle.label_lattice.specs.declared.error.LatticeError.TheVariants.{NoLabels, TooMany, UnknownLabel}
 use Rattle.label_lattice.specs.Order.{place_of}
-use Rattle.label_lattice.specs.Reach.{closes, ends_of, numbered}
+use Rattle.label_lattice.specs.Reach.{closes, ends_of, pairs_numbered}
 use Rattle.label_lattice.specs.Joins.{labels}
 use Rattle.label_lattice.specs.Faults.{first_of, name_fault, end_fault, order_fault}
 use Rattle.label_lattice.specs.Laws.{IsExactFault}
@@ -77,14 +77,14 @@ exact_fault names pairs = (
   λ e.
       let open_gate = gate_none (length names == 0) (nat_lt 64 (length names)) _ e in
       let first = or_none (first_of (name_fault names) (labels (length names))) _ open_gate.2 in
-      let second = or_none (end_fault names pairs) (order_fault (length names) (closes (numbered names pairs))) first.1 in
+      let second = or_none (end_fault names pairs) (order_fault (length names) (closes (pairs_numbered names pairs))) first.1 in
       record {
         different = AreNames-faultless names ((some_names (length names)).0 open_gate.0) (ltb-false 64 (length names) open_gate.1) first.0;
         known = (known_ends names pairs).0 second.0;
-        lattice = (order_lattice (length names) (closes (numbered names pairs)) (closes_preorder (length names) (numbered names pairs) (numbered_pairs names pairs))).0 second.1;
+        lattice = (order_lattice (length names) (closes (pairs_numbered names pairs)) (closes_preorder (length names) (pairs_numbered names pairs) (numbered_pairs names pairs))).0 second.1;
       },
   λ makes.
       gate_open (length names == 0) (nat_lt 64 (length names)) _ ((some_names (length names)).1 makes.different.some) (le-ltb 64 (length names) makes.different.few)
       ∙ (λ i. option_or (faultless-AreNames names makes.different i) (option_or ((known_ends names pairs).1 makes.known i)
-      ((order_lattice (length names) (closes (numbered names pairs)) (closes_preorder (length names) (numbered names pairs) (numbered_pairs names pairs))).1 makes.lattice i))),
+      ((order_lattice (length names) (closes (pairs_numbered names pairs)) (closes_preorder (length names) (pairs_numbered names pairs) (numbered_pairs names pairs))).1 makes.lattice i))),
 )

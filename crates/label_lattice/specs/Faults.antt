@@ -7,7 +7,7 @@ use Rattle.trapeze_io.specs.Names.{is_name}
 use Rattle.label_lattice.specs.declared.label.Label.{Label}
 use Rattle.label_lattice.specs.declared.error.LatticeError.{LatticeError}
 use Rattle.label_lattice.specs.declared.error.LatticeError.TheVariants.{NoLabels, TooMany, BadName, Repeated, UnknownLabel, Cycle, NoJoin, NoMeet, NoMemory}
-use Rattle.label_lattice.specs.Reach.{closes, ends_of, numbered}
+use Rattle.label_lattice.specs.Reach.{closes, ends_of, pairs_numbered}
 use Rattle.label_lattice.specs.Joins.{labels, label_pairs, has_join, has_meet}
 
 -- the first answer that f gives of the elements
@@ -57,7 +57,7 @@ first_fault names pairs =
     if nat_lt 64 (length names) then Some TooMany else
     option_or (first_of (name_fault names) (labels (length names)))
     (option_or (end_fault names pairs)
-    (order_fault (length names) (closes (numbered names pairs))))
+    (order_fault (length names) (closes (pairs_numbered names pairs))))
 
 -- a value where there is no fault, and otherwise the fault, or out of memory
 abbrev pub Passes : {T : Type 0} → Option LatticeError → Result T LatticeError → Type 0

@@ -1,6 +1,6 @@
 -- When names and pairs make a lattice.
 use Rattle.std.specs.Prelude.{◌≡◌, ◌<◌, ℕ, Bool, IsTrue, List, None, Contains, ◌↔◌, length}
-use Rattle.label_lattice.specs.Reach.{closes, numbered}
+use Rattle.label_lattice.specs.Reach.{closes, pairs_numbered}
 use Rattle.label_lattice.specs.Faults.{first_fault}
 use Rattle.label_lattice.specs.Joins.{has_join, has_meet, IsJoin, IsMeet}
 use Rattle.label_lattice.specs.Sound.{AreNames, IsLattice}
@@ -9,7 +9,7 @@ use Rattle.label_lattice.specs.Sound.{AreNames, IsLattice}
 pub record MakesLattice (names : List (List ℕ)) (pairs : List (List ℕ × List ℕ)) : Type 0 where
   pub different : AreNames names
   pub known : (pair : List ℕ × List ℕ) → Contains pairs pair → Contains names pair.0 × Contains names pair.1
-  pub lattice : IsLattice (length names) (closes (numbered names pairs))
+  pub lattice : IsLattice (length names) (closes (pairs_numbered names pairs))
 
 -- no fault is found exactly where the names and pairs make a lattice
 abbrev pub IsExactFault : Type 0

@@ -32,9 +32,9 @@ abbrev pub ends_of : List (List ℕ) → List ℕ × List ℕ → Option (ℕ ×
 ends_of names pair = option_and_then (λ a. option_map (λ b. (a, b)) (place_of pair.1 names)) (place_of pair.0 names)
 
 -- the pairs by position
-abbrev pub numbered : List (List ℕ) → List (List ℕ × List ℕ) → List (ℕ × ℕ)
-numbered names pairs = filter_map (ends_of names) pairs
+abbrev pub pairs_numbered : List (List ℕ) → List (List ℕ × List ℕ) → List (ℕ × ℕ)
+pairs_numbered names pairs = filter_map (ends_of names) pairs
 
 -- the order of these names and pairs
 abbrev pub order_of : List (List ℕ) → List (List ℕ × List ℕ) → Order
-order_of names pairs = record { names = names; pairs = numbered names pairs }
+order_of names pairs = record { names = names; pairs = pairs_numbered names pairs }

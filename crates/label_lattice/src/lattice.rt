@@ -4,7 +4,7 @@ ghost use Rattle.std.specs.Prelude.{◌≡◌, ◌<◌, ◌≤◌, Some, slice_g
 ghost use Rattle.label_lattice.specs.Order.{count, place_of};
 ghost use Rattle.label_lattice.specs.Rows.{ArePairs, IsClosure};
 ghost use Rattle.label_lattice.specs.Joins.{IsJoin, join};
-ghost use Rattle.label_lattice.specs.Reach.{numbered, order_of, flows};
+ghost use Rattle.label_lattice.specs.Reach.{pairs_numbered, order_of, flows};
 ghost use Rattle.label_lattice.specs.Faults.{Passes, first_fault, end_fault};
 ghost use Rattle.label_lattice.specs.Sound.{IsSound, HasTop};
 
@@ -60,7 +60,7 @@ impl Lattice {
             return Err(LatticeError::TooMany);
         }
         let names = Names::read(alloc, names)?;
-        let pairs = numbered(alloc, &names, flows)?;
+        let pairs = pairs_numbered(alloc, &names, flows)?;
         let count = names.count();
         let table = closure(count, &pairs);
         check(&table, count)?;
@@ -126,13 +126,13 @@ impl Lattice {
 }
 
 /// The pairs by number.
-fn numbered(
+fn pairs_numbered(
     alloc: Global,
     names: &Names,
     flows: &[(Bytes, Bytes)],
 ) -> Result<Vec<(u8, u8)>, LatticeError>
     ensures fault { Passes (end_fault names.now flows.now) result }
-    ensures pairs { IfOk result (λ pairs. pairs.items ≡ numbered names.now flows.now) }
+    ensures pairs { IfOk result (λ pairs. pairs.items ≡ pairs_numbered names.now flows.now) }
 {
     let mut pairs = Vec::new(alloc);
     'flows: for (j, (from, to)) in flows.iter().enumerate() {

@@ -28,7 +28,7 @@ use Rattle.policy_toml.specs.declared.error.PolicyError.TheVariants.{Toml, OutOf
 use Rattle.trapeze_io.specs.Names.{Ascend}
 use Rattle.policy_toml.specs.Places.{whole}
 use Rattle.trapeze_io.specs.Answers.{◌>>=◌}
-use Rattle.policy_toml.specs.Rows.{each_row, items_of, rows_of, keys_in}
+use Rattle.policy_toml.specs.Rows.{each_row, items_of, members_of, keys_in}
 use Rattle.policy_toml.specs.Stages.{document_of, two_texts, at_most}
 
 -- what was found, and then what the rest reads as
@@ -153,16 +153,16 @@ Named-more key P found y name d left all so is here = record {
 pub Named-done : {Y : Type 0} (key : Y → List ℕ) (P : Y → Type 0) (found : List Y) (all : Members) → Named key P found no_members all → Ascend (map key found)
 Named-done key P found all so = subst Ascend (sym so.names ∙ append-nil (map key found)) so.ascend
 
-pub rows_of-length : (es : List Entry) → length (rows_of (members_view es)) ≡ length es
+pub rows_of-length : (es : List Entry) → length (members_of (members_view es)) ≡ length es
 rows_of-length [] = refl
 rows_of-length (e ∷ es) = ap suc (rows_of-length es)
 
 -- at most so many rows, or more
 pub few_rows : (most : ℕ) (part : Part) (es : List Entry) → length es ≤ most → at_most most part (members_view es) ≡ Ok tt
-few_rows most part es few = ap (λ b. if b then Ok tt else Err (OutOfRange (whole part))) (le-leb (length (rows_of (members_view es))) most (rw rows_of-length few))
+few_rows most part es few = ap (λ b. if b then Ok tt else Err (OutOfRange (whole part))) (le-leb (length (members_of (members_view es))) most (rw rows_of-length few))
 
 pub many_rows : (most : ℕ) (part : Part) (es : List Entry) → most < length es → at_most most part (members_view es) ≡ Err (OutOfRange (whole part))
-many_rows most part es many = ap (λ b. if b then Ok tt else Err (OutOfRange (whole part))) (lt-leb (length (rows_of (members_view es))) most (rw rows_of-length many))
+many_rows most part es many = ap (λ b. if b then Ok tt else Err (OutOfRange (whole part))) (lt-leb (length (members_of (members_view es))) most (rw rows_of-length many))
 
 all_within : {X : Type 0} (P : X → Type 0) (xs : List X) (y : X) (ys : List X) → AllByRecursion P (xs ++ y ∷ ys) → P y
 all_within P [] y ys h = h.0
@@ -186,18 +186,18 @@ Named-new P found name d left all so = new_name found name (keys_in left) (subst
 
 -- the same, at the entries of a map: one more entry was read, or none is left
 pub SoFar-next : {Y : Type 0} (read : ℕ → List ℕ × Data → Result Y PolicyError) (all : List (List ℕ × Data)) (es left : List Entry) (key : String Global) (v : Value) (found now : List Y) (y : Y)
-    → SoFar read all (rows_of (members_view es)) found → es ≡ (key, v) ∷ left → read (length found + 1) (string_bytes key, view v) ≡ Ok y → now ≡ found ++ y ∷ [] → SoFar read all (rows_of (members_view left)) now
+    → SoFar read all (members_of (members_view es)) found → es ≡ (key, v) ∷ left → read (length found + 1) (string_bytes key, view v) ≡ Ok y → now ≡ found ++ y ∷ [] → SoFar read all (members_of (members_view left)) now
 SoFar-next read all es left key v found now y so step is pushed =
-    rw pushed (SoFar-more read all (string_bytes key, view v) (rows_of (members_view left)) found y (subst (λ (x : List Entry). SoFar read all (rows_of (members_view x)) found) step so) is)
+    rw pushed (SoFar-more read all (string_bytes key, view v) (members_of (members_view left)) found y (subst (λ (x : List Entry). SoFar read all (members_of (members_view x)) found) step so) is)
 
 pub Named-next : {Y : Type 0} (name : Y → List ℕ) (P : Y → Type 0) (es left all : List Entry) (key : String Global) (v : Value) (found now : List Y) (y : Y)
     → Named name P found (members_view es) (members_view all) → es ≡ (key, v) ∷ left → name y ≡ string_bytes key → P y → now ≡ found ++ y ∷ [] → Named name P now (members_view left) (members_view all)
 Named-next name P es left all key v found now y so step is here pushed =
     rw pushed (Named-more name P found y (string_bytes key) (view v) (members_view left) (members_view all) (subst (λ (x : List Entry). Named name P found (members_view x) (members_view all)) step so) is here)
 
-pub SoFar-count : {Y : Type 0} (read : ℕ → List ℕ × Data → Result Y PolicyError) (all : List (List ℕ × Data)) (es : List Entry) (found : List Y) → SoFar read all (rows_of (members_view es)) found → es ≡ [] → length found ≡ length all
+pub SoFar-count : {Y : Type 0} (read : ℕ → List ℕ × Data → Result Y PolicyError) (all : List (List ℕ × Data)) (es : List Entry) (found : List Y) → SoFar read all (members_of (members_view es)) found → es ≡ [] → length found ≡ length all
 SoFar-count read all es found so none =
-    each_row-length read 1 all found (SoFar-done read all found (subst (λ (x : List Entry). SoFar read all (rows_of (members_view x)) found) none so))
+    each_row-length read 1 all found (SoFar-done read all found (subst (λ (x : List Entry). SoFar read all (members_of (members_view x)) found) none so))
 
 pub Named-fresh : {V : Type 0} (P : List ℕ × V → Type 0) (es left all : List Entry) (key : String Global) (v : Value) (found : List (List ℕ × V)) (name : List ℕ)
     → Named (λ c. c.0) P found (members_view es) (members_view all) → es ≡ (key, v) ∷ left → name ≡ string_bytes key → lookup (pointwise nat_eq name) found ≡ None

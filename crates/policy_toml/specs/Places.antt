@@ -8,8 +8,8 @@ abbrev pub whole : Part → Place
 whole part = record { part = part; row = 0; item = 0 }
 
 -- a whole row of a part; rows count from 1
-abbrev pub row_of : Part → ℕ → Place
-row_of part row = record { part = part; row = row; item = 0 }
+abbrev pub row_place : Part → ℕ → Place
+row_place part row = record { part = part; row = row; item = 0 }
 
 -- a field of a row; fields count from 1
 abbrev pub field_of : Part → ℕ → ℕ → Place

@@ -10,11 +10,11 @@ use Rattle.policy_toml.specs.Stages.{document_of, root_keys, labels_of, flows_of
 use Rattle.policy_toml.specs.Parts.{Parts}
 
 -- the limits of a label: those of its row, or the usual ones
-abbrev pub limits_at : List (ℕ × Limits) → ℕ → Limits
-limits_at rows label = unwrap_or (option_map (λ row. row.1) (find (λ row. row.0 == label) rows)) usual
+abbrev pub limits_written : List (ℕ × Limits) → ℕ → Limits
+limits_written rows label = unwrap_or (option_map (λ row. row.1) (find (λ row. row.0 == label) rows)) usual
 
 abbrev pub limits_by_label : ℕ → List (ℕ × Limits) → List Limits
-limits_by_label labels rows = map (limits_at rows) (range_with_len 0 labels)
+limits_by_label labels rows = map (limits_written rows) (range_with_len 0 labels)
 
 -- the policy that a root table is, or its first fault
 unfoldable pub table_policy : Members → Result Parts PolicyError

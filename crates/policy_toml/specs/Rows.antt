@@ -9,7 +9,7 @@ use Rattle.policy_toml.specs.declared.place.Part.TheVariants as part
 use Rattle.policy_toml.specs.declared.place.Place.{Place}
 use Rattle.policy_toml.specs.declared.error.PolicyError.{PolicyError}
 use Rattle.policy_toml.specs.declared.error.PolicyError.TheVariants.{Extra, Missing, WrongKind, NoMemory}
-use Rattle.policy_toml.specs.Places.{row_of}
+use Rattle.policy_toml.specs.Places.{row_place}
 
 -- a test that gives nothing but its fault
 abbrev pub unless : Option PolicyError → Result (Unit {0}) PolicyError
@@ -26,9 +26,9 @@ abbrev pub items_of : Items → List Data
 items_of no_items = []
 items_of (item d others) = d ∷ items_of others
 
-abbrev pub rows_of : Members → List (List ℕ × Data)
-rows_of no_members = []
-rows_of (member key d others) = (key, d) ∷ rows_of others
+abbrev pub members_of : Members → List (List ℕ × Data)
+members_of no_members = []
+members_of (member key d others) = (key, d) ∷ members_of others
 
 -- the keys of a table
 abbrev pub keys_in : Members → List (List ℕ)
@@ -56,7 +56,7 @@ is_key_of part key = list_any (pointwise nat_eq key) (keys_of part)
 
 -- the first key of a table that is none of the part's, by its place from 1
 abbrev pub extra_key : Part → Members → Option ℕ
-extra_key part table = position_from (λ row. not (is_key_of part row.0)) 1 (rows_of table)
+extra_key part table = position_from (λ row. not (is_key_of part row.0)) 1 (members_of table)
 
 abbrev pub extra_in_row : Place → Option ℕ → Result (Unit {0}) PolicyError
 extra_in_row place None = Ok tt
@@ -65,14 +65,14 @@ extra_in_row place (Some _) = Err (Extra place)
 -- a row's table, which has no key but the part's
 abbrev pub row_table : Part → ℕ → Data → Result Members PolicyError
 row_table part row d =
-    ok_or (as_table d) (WrongKind (row_of part row)) >>= (λ table.
-    extra_in_row (row_of part row) (extra_key part table) >>= (λ _. Ok table))
+    ok_or (as_table d) (WrongKind (row_place part row)) >>= (λ table.
+    extra_in_row (row_place part row) (extra_key part table) >>= (λ _. Ok table))
 
 -- the text at a key that has to be there
 abbrev pub text_at : List ℕ → Place → Members → Result (List ℕ) PolicyError
 text_at key place table = ok_or (get_member key table) (Missing place) >>= (λ d. ok_or (as_str d) (WrongKind place))
 
--- the answer is what the definition reads, unless there was no memory
+-- the answer is what the definition reads, unless it is out of memory
 abbrev pub Reads : {T X : Type 0} → (T → X) → Result X PolicyError → Result T PolicyError → Type 0
 Reads shown read (Ok x) = read ≡ Ok (shown x)
 Reads shown read (Err fault) = fault ≢ NoMemory → read ≡ Err fault

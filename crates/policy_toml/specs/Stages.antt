@@ -21,8 +21,8 @@ use Rattle.policy_toml.specs.declared.place.Part.TheVariants as part
 use Rattle.policy_toml.specs.declared.place.Place.{Place}
 use Rattle.policy_toml.specs.declared.error.PolicyError.{PolicyError}
 use Rattle.policy_toml.specs.declared.error.PolicyError.TheVariants.{Toml, Extra, Missing, WrongKind, Lattice, BadName, UnknownLabel, UnknownFunction, OutOfRange}
-use Rattle.policy_toml.specs.Places.{whole, row_of, field_of}
-use Rattle.policy_toml.specs.Rows.{unless, each_row, items_of, rows_of, where_written, extra_key, row_table, text_at}
+use Rattle.policy_toml.specs.Places.{whole, row_place, field_of}
+use Rattle.policy_toml.specs.Rows.{unless, each_row, items_of, members_of, where_written, extra_key, row_table, text_at}
 
 -- the bytes are a UTF-8 text that is a TOML document
 abbrev pub document_of : List ℕ → Result Members PolicyError
@@ -30,11 +30,11 @@ document_of bytes = if is_utf8 bytes then ok_or (parse_document bytes) Toml else
 
 -- the root has no key but a policy's
 unfoldable pub root_keys : Members → Result (Unit {0}) PolicyError
-root_keys root = unless (option_map (λ row. Extra (row_of part.Root row)) (extra_key part.Root root))
+root_keys root = unless (option_map (λ row. Extra (row_place part.Root row)) (extra_key part.Root root))
 
 -- a label is a text
 abbrev pub label_row : ℕ → Data → Result (List ℕ) PolicyError
-label_row row d = ok_or (as_str d) (WrongKind (row_of part.Labels row))
+label_row row d = ok_or (as_str d) (WrongKind (row_place part.Labels row))
 
 -- the labels are there, an array
 unfoldable pub labels_of : Members → Result (List (List ℕ)) PolicyError
@@ -53,7 +53,7 @@ pair_of d = option_and_then two_texts (as_array d)
 
 -- a flow is an array of two texts
 abbrev pub flow_row : ℕ → Data → Result (List ℕ × List ℕ) PolicyError
-flow_row row d = ok_or (pair_of d) (WrongKind (row_of part.Flows row))
+flow_row row d = ok_or (pair_of d) (WrongKind (row_place part.Flows row))
 
 -- the flows, where they are written, are an array
 abbrev pub flows_in : Data → Result (List (List ℕ × List ℕ)) PolicyError
@@ -96,14 +96,14 @@ row_limits row table = do
 -- a row of limits is of a label, and a table
 abbrev pub limits_row : List (List ℕ) → ℕ → List ℕ × Data → Result (ℕ × Limits) PolicyError
 limits_row names row entry =
-    ok_or (place_of entry.0 names) (UnknownLabel (row_of part.Limits row)) >>= (λ label.
+    ok_or (place_of entry.0 names) (UnknownLabel (row_place part.Limits row)) >>= (λ label.
     row_table part.Limits row entry.1 >>= (λ table.
     row_limits row table >>= (λ limits. Ok (label, limits))))
 
 -- the limits, where they are written, are a table
 abbrev pub limits_in : List (List ℕ) → Data → Result (List (ℕ × Limits)) PolicyError
 limits_in names d =
-    ok_or (as_table d) (WrongKind (whole part.Limits)) >>= (λ table. each_row (limits_row names) 1 (rows_of table))
+    ok_or (as_table d) (WrongKind (whole part.Limits)) >>= (λ table. each_row (limits_row names) 1 (members_of table))
 
 unfoldable pub limits_of : List (List ℕ) → Members → Result (List (ℕ × Limits)) PolicyError
 limits_of names root = where_written (get_member (codes "limits") root) (limits_in names)
@@ -115,11 +115,11 @@ pub record IsRowOf (labels : ℕ) (row : ℕ × Limits) : Type 0 where
 
 -- a part has at most so many rows
 abbrev pub at_most : ℕ → Part → Members → Result (Unit {0}) PolicyError
-at_most most part table = if nat_le (length (rows_of table)) most then Ok tt else Err (OutOfRange (whole part))
+at_most most part table = if nat_le (length (members_of table)) most then Ok tt else Err (OutOfRange (whole part))
 
 -- a row's key is a name
 abbrev pub name_of : Part → ℕ → List ℕ → Result (List ℕ) PolicyError
-name_of part row key = if is_name key then Ok key else Err (BadName (row_of part row))
+name_of part row key = if is_name key then Ok key else Err (BadName (row_place part row))
 
 -- a function has a name, and a file name of 1 to 255 bytes
 abbrev pub is_file_name : List ℕ → Bool
@@ -128,14 +128,14 @@ is_file_name file = nat_le 1 (length file) && nat_le (length file) 255
 abbrev pub function_row : ℕ → List ℕ × Data → Result (List ℕ × List ℕ) PolicyError
 function_row row entry =
     name_of part.Functions row entry.0 >>= (λ name.
-    ok_or (as_str entry.1) (WrongKind (row_of part.Functions row)) >>= (λ file.
-    if is_file_name file then Ok (name, file) else Err (OutOfRange (row_of part.Functions row))))
+    ok_or (as_str entry.1) (WrongKind (row_place part.Functions row)) >>= (λ file.
+    if is_file_name file then Ok (name, file) else Err (OutOfRange (row_place part.Functions row))))
 
 -- the functions, where they are written, are a table of at most 256
 abbrev pub functions_in : Data → Result (List (List ℕ × List ℕ)) PolicyError
 functions_in d =
     ok_or (as_table d) (WrongKind (whole part.Functions)) >>= (λ table.
-    at_most 256 part.Functions table >>= (λ _. each_row function_row 1 (rows_of table)))
+    at_most 256 part.Functions table >>= (λ _. each_row function_row 1 (members_of table)))
 
 unfoldable pub functions_of : Members → Result (List (List ℕ × List ℕ)) PolicyError
 functions_of root = where_written (get_member (codes "functions") root) functions_in
@@ -161,7 +161,7 @@ channel_row names functions row entry =
 -- the channels, where they are written, are a table
 abbrev pub channels_in : List (List ℕ) → List (List ℕ) → Data → Result (List (List ℕ × Channel)) PolicyError
 channels_in names functions d =
-    ok_or (as_table d) (WrongKind (whole part.Channels)) >>= (λ table. each_row (channel_row names functions) 1 (rows_of table))
+    ok_or (as_table d) (WrongKind (whole part.Channels)) >>= (λ table. each_row (channel_row names functions) 1 (members_of table))
 
 unfoldable pub channels_of : List (List ℕ) → List (List ℕ) → Members → Result (List (List ℕ × Channel)) PolicyError
 channels_of names functions root = where_written (get_member (codes "channels") root) (channels_in names functions)
@@ -177,7 +177,7 @@ client_row names row entry =
 abbrev pub clients_in : List (List ℕ) → Data → Result (List (List ℕ × ℕ)) PolicyError
 clients_in names d =
     ok_or (as_table d) (WrongKind (whole part.Clients)) >>= (λ table.
-    at_most 65536 part.Clients table >>= (λ _. each_row (client_row names) 1 (rows_of table)))
+    at_most 65536 part.Clients table >>= (λ _. each_row (client_row names) 1 (members_of table)))
 
 unfoldable pub clients_of : List (List ℕ) → Members → Result (List (List ℕ × ℕ)) PolicyError
 clients_of names root = where_written (get_member (codes "clients") root) (clients_in names)
@@ -224,7 +224,7 @@ gate_row names functions row entry =
 -- the gates, where they are written, are a table
 abbrev pub gates_in : List (List ℕ) → List (List ℕ) → Data → Result (List (List ℕ × Gate)) PolicyError
 gates_in names functions d =
-    ok_or (as_table d) (WrongKind (whole part.Gates)) >>= (λ table. each_row (gate_row names functions) 1 (rows_of table))
+    ok_or (as_table d) (WrongKind (whole part.Gates)) >>= (λ table. each_row (gate_row names functions) 1 (members_of table))
 
 unfoldable pub gates_of : List (List ℕ) → List (List ℕ) → Members → Result (List (List ℕ × Gate)) PolicyError
 gates_of names functions root = where_written (get_member (codes "gates") root) (gates_in names functions)

@@ -4,7 +4,7 @@ ghost use Rattle.std.specs.Prelude.{◌≡◌, ◌≤◌, Some, None, option_map
 ghost use Rattle.toml.specs.View.{view, table_view};
 ghost use Rattle.label_lattice.specs.Order.{count};
 ghost use Rattle.trapeze_io.specs.Names.{Ascend};
-ghost use Rattle.policy_toml.specs.Rows.{Reads, each_row, rows_of};
+ghost use Rattle.policy_toml.specs.Rows.{Reads, each_row, members_of};
 ghost use Rattle.policy_toml.specs.Stages.{channel_row, channels_of, shown_channel, IsChannel};
 
 use crate::error::PolicyError;
@@ -47,7 +47,7 @@ fn channel_rows(
 ) -> Result<Channels, PolicyError>
     requires ascend { Ascend functions.now }
     requires few { length functions.now ≤ 256 }
-    ensures read { Reads (λ channels. channels) (each_row (channel_row lattice.now.names functions.now) 1 (rows_of (table_view table.now))) result }
+    ensures read { Reads (λ channels. channels) (each_row (channel_row lattice.now.names functions.now) 1 (members_of (table_view table.now))) result }
     ensures below { IfOk result (All (IsChannel (count lattice.now) (length functions.now))) }
 {
     let mut channels = Channels::new(alloc);

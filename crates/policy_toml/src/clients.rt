@@ -4,7 +4,7 @@ ghost use Rattle.std.specs.Prelude.{◌≡◌, ◌≤◌, Some, None, option_map
 ghost use Rattle.toml.specs.View.{view, table_view};
 ghost use Rattle.label_lattice.specs.Order.{count};
 ghost use Rattle.trapeze_io.specs.Names.{Ascend};
-ghost use Rattle.policy_toml.specs.Rows.{Reads, each_row, rows_of};
+ghost use Rattle.policy_toml.specs.Rows.{Reads, each_row, members_of};
 ghost use Rattle.policy_toml.specs.Stages.{client_row, clients_of, IsClient};
 
 use crate::error::PolicyError;
@@ -50,10 +50,10 @@ pub fn clients(alloc: Global, lattice: &Lattice, root: &Table) -> Result<Vec<Cli
 }
 
 fn client_rows(alloc: Global, lattice: &Lattice, table: &Table) -> Result<Vec<Client>, PolicyError>
-    ensures read { Reads (λ rows. rows.items) (each_row (client_row lattice.now.names) 1 (rows_of (table_view table.now))) result }
+    ensures read { Reads (λ rows. rows.items) (each_row (client_row lattice.now.names) 1 (members_of (table_view table.now))) result }
     ensures ascend { IfOk result (λ rows. Ascend (map (λ row. row.0) rows.items)) }
     ensures clearances { IfOk result (λ rows. All (IsClient (count lattice.now)) rows.items) }
-    ensures count { IfOk result (λ rows. length rows.items ≡ length (rows_of (table_view table.now))) }
+    ensures count { IfOk result (λ rows. length rows.items ≡ length (members_of (table_view table.now))) }
 {
     let mut clients = Vec::new(alloc);
     'rows: for (key, value) in table {

@@ -6,7 +6,7 @@ ghost use Rattle.std.specs.Ordering.{nat_cmp};
 ghost use Rattle.toml.specs.View.{view, table_view};
 ghost use Rattle.label_lattice.specs.Order.{place_of};
 ghost use Rattle.trapeze_io.specs.Names.{Ascend};
-ghost use Rattle.policy_toml.specs.Rows.{Reads, each_row, rows_of};
+ghost use Rattle.policy_toml.specs.Rows.{Reads, each_row, members_of};
 ghost use Rattle.policy_toml.specs.Stages.{function_row, functions_of, function_at, IsFunction};
 
 use crate::error::PolicyError;
@@ -52,10 +52,10 @@ pub fn functions(alloc: Global, root: &Table) -> Result<Vec<Function>, PolicyErr
 }
 
 fn function_rows(alloc: Global, table: &Table) -> Result<Vec<Function>, PolicyError>
-    ensures read { Reads (λ rows. rows.items) (each_row function_row 1 (rows_of (table_view table.now))) result }
+    ensures read { Reads (λ rows. rows.items) (each_row function_row 1 (members_of (table_view table.now))) result }
     ensures ascend { IfOk result (λ rows. Ascend (map (λ row. row.0) rows.items)) }
     ensures files { IfOk result (λ rows. All IsFunction rows.items) }
-    ensures count { IfOk result (λ rows. length rows.items ≡ length (rows_of (table_view table.now))) }
+    ensures count { IfOk result (λ rows. length rows.items ≡ length (members_of (table_view table.now))) }
 {
     let mut functions = Vec::new(alloc);
     'rows: for (key, value) in table {

@@ -4,7 +4,7 @@ ghost use Rattle.std.specs.Prelude.{◌≡◌, ◌≤◌, [], codes, length, IfO
 ghost use Rattle.toml.specs.View.{view, table_view};
 ghost use Rattle.label_lattice.specs.Order.{count};
 ghost use Rattle.trapeze_io.specs.Names.{Ascend};
-ghost use Rattle.policy_toml.specs.Rows.{Reads, each_row, rows_of};
+ghost use Rattle.policy_toml.specs.Rows.{Reads, each_row, members_of};
 ghost use Rattle.policy_toml.specs.Stages.{filter_at, filter_named, gate_fields, gate_row, gates_of, with_count, IsGate};
 
 use crate::error::PolicyError;
@@ -50,7 +50,7 @@ fn gate_rows(
 ) -> Result<Gates, PolicyError>
     requires ascend { Ascend functions.now }
     requires few { length functions.now ≤ 256 }
-    ensures read { Reads (λ gates. gates) (each_row (gate_row lattice.now.names functions.now) 1 (rows_of (table_view table.now))) result }
+    ensures read { Reads (λ gates. gates) (each_row (gate_row lattice.now.names functions.now) 1 (members_of (table_view table.now))) result }
     ensures below { IfOk result (All (IsGate (count lattice.now) (length functions.now))) }
 {
     let mut gates = Gates::new(alloc);

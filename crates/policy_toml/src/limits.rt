@@ -5,8 +5,8 @@ ghost use Rattle.toml.specs.View.{view, table_view};
 ghost use Rattle.label_lattice.specs.Order.{count};
 ghost use Rattle.label_limits.specs.Ranges.{AreWithin};
 ghost use Rattle.policy_toml.specs.Places.{field_of};
-ghost use Rattle.policy_toml.specs.PolicyOf.{limits_at, limits_by_label};
-ghost use Rattle.policy_toml.specs.Rows.{Reads, each_row, rows_of};
+ghost use Rattle.policy_toml.specs.PolicyOf.{limits_written, limits_by_label};
+ghost use Rattle.policy_toml.specs.Rows.{Reads, each_row, members_of};
 ghost use Rattle.policy_toml.specs.Stages.{limits_of, limits_row, row_limits, IsRowOf};
 
 use crate::error::PolicyError;
@@ -51,7 +51,7 @@ pub fn limits(alloc: Global, lattice: &Lattice, root: &Table) -> Result<Vec<Row>
 }
 
 fn limits_rows(alloc: Global, lattice: &Lattice, table: &Table) -> Result<Vec<Row>, PolicyError>
-    ensures read { Reads (λ rows. rows.items) (each_row (limits_row lattice.now.names) 1 (rows_of (table_view table.now))) result }
+    ensures read { Reads (λ rows. rows.items) (each_row (limits_row lattice.now.names) 1 (members_of (table_view table.now))) result }
     ensures rows { IfOk result (λ rows. All (IsRowOf (count lattice.now)) rows.items) }
 {
     let mut limits = Vec::new(alloc);
@@ -126,7 +126,7 @@ pub fn all_limits(alloc: Global, lattice: &Lattice, rows: &[Row]) -> Result<Vec<
 {
     let mut all = Vec::new(alloc);
     'labels: for label in 0..lattice.count() {
-        if let Err(_) = all.push(limits_at(rows, label)) {
+        if let Err(_) = all.push(limits_written(rows, label)) {
             return Err(NoMemory);
         }
     }
@@ -139,8 +139,8 @@ fn row_at(rows: &[Row], label: u8) -> Option<&Row>
     rows.iter().find(|row| row.label.number == label)
 }
 
-fn limits_at(rows: &[Row], label: u8) -> Limits
-    ensures { result ≡ limits_at rows.now label }
+fn limits_written(rows: &[Row], label: u8) -> Limits
+    ensures { result ≡ limits_written rows.now label }
 {
     match row_at(rows, label) {
         Some(row) => row.limits,

@@ -1,7 +1,7 @@
 //! Places in a policy.
 
 ghost use Rattle.std.specs.Prelude.{◌≡◌};
-ghost use Rattle.policy_toml.specs.Places.{field_of, row_of, whole};
+ghost use Rattle.policy_toml.specs.Places.{field_of, row_place, whole};
 
 /// A part of a policy: its root table, or what stands at one of the root's keys.
 #[derive(Debug, Clone, Copy, PartialEq, Eq, Drop)]
@@ -40,7 +40,7 @@ impl Place {
 
     /// A whole row of a part; rows count from 1.
     pub fn row(part: Part, row: u64) -> Place
-        ensures { result ≡ row_of part row }
+        ensures { result ≡ row_place part row }
     {
         Place { part, row, item: 0 }
     }

@@ -33,10 +33,10 @@ abbrev pub asked_in : Asked → guests.Asked
 asked_in a = record { name = a.name; args = a.args }
 
 -- the cause of a trap of a host call
-abbrev pub cause_of : ShimTrap → Cause
-cause_of trap.Memory = cause.Memory
-cause_of trap.Size = cause.Size
-cause_of trap.Unknown = cause.Unknown
+abbrev pub cause_of_call : ShimTrap → Cause
+cause_of_call trap.Memory = cause.Memory
+cause_of_call trap.Size = cause.Size
+cause_of_call trap.Unknown = cause.Unknown
 
 -- what the host makes of an effect of a host call of the activation a at c
 abbrev pub made : Rules → ℕ → Activation Thread → Option Effect → State Thread → Moved Thread
@@ -65,7 +65,7 @@ abbrev pub Performs : Rules → Module → ℕ → Activation Thread → State T
 Performs P m c a s called rows (performed.Resume sandbox effect) = Resumes P m c a s called rows sandbox effect
 Performs P m c a s called rows (performed.Raise sandbox l) =
     (called ≡ RaisedTo l.number (thread_of m sandbox)) × (rows ≡ rows_of s.store) × IsReady m sandbox
-Performs P m c a s called rows (performed.Trapped trap) = (called ≡ Refused (cause_of trap)) × (rows ≡ rows_of s.store)
+Performs P m c a s called rows (performed.Trapped trap) = (called ≡ Refused (cause_of_call trap)) × (rows ≡ rows_of s.store)
 
 -- where a message goes, a label and a function below these counts, and its bytes within their limit
 abbrev pub IsFitMessage : ℕ → ℕ → List ℕ → Option (Label × ℕ) → Type 0

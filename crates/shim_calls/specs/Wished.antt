@@ -4,7 +4,7 @@ use Rattle.std.specs.Prelude.{ok_or, if◌then◌else◌}
 use Rattle.trapeze_io.specs.Answers.{◌>>=◌}
 use Rattle.gate_rules.specs.Gates.{filtered}
 use Rattle.facet_list.specs.Store.{Write}
-use Rattle.facet_list.specs.Rows.{Rows, rows_of, IsValue}
+use Rattle.facet_list.specs.Rows.{Rows, rows_of}
 use Rattle.trapeze_lines.specs.declared.line.Line.{Line}
 use Rattle.trapeze_lines.specs.declared.outcome.Cause.{Cause}
 use Rattle.trapeze_lines.specs.declared.outcome.Cause.TheVariants.{Unknown}
@@ -18,18 +18,18 @@ use Rattle.host_rules.specs.States.{Activation, State, still, then_lines}
 use Rattle.host_rules.specs.Calls.{Called, copied, granted}
 use Rattle.host_rules.specs.Modules.{guest_of}
 use Rattle.host_rules.specs.Wishes as wishes
-use Rattle.trapeze_io.specs.Sizes.{IsKey}
+use Rattle.trapeze_io.specs.Sizes.{IsKey, IsValue}
 use Rattle.shim_calls.specs.declared.effect.Effect.{Effect}
 use Rattle.shim_calls.specs.declared.effect.Performed.{Performed}
 use Rattle.shim_calls.specs.declared.wish.Wish.{Wish}
 use Rattle.shim_calls.specs.declared.wish.Wish.TheVariants as asks
 use Rattle.shim_calls.specs.declared.wish.Refused.{Refused}
 use Rattle.shim_calls.specs.declared.wish.Refused.TheVariants as refused
-use Rattle.shim_calls.specs.Performing.{cause_of, made, Performs, IsFitMessage, IsFitRelease}
+use Rattle.shim_calls.specs.Performing.{cause_of_call, made, Performs, IsFitMessage, IsFitRelease}
 
--- the cause that a refusal has: want of memory has none
+-- the cause that a refusal has; being out of memory has none
 abbrev pub fault_of : Refused → Option Cause
-fault_of (refused.Trapped trap) = Some (cause_of trap)
+fault_of (refused.Trapped trap) = Some (cause_of_call trap)
 fault_of refused.NoMemory = None
 
 -- a wish at c with its message delivered and its release filtered: a message or a release that does not flow vanishes

@@ -12,7 +12,7 @@ use crate::effect::{Effect, Performed, ShimTrap};
 use sandbox::{StoreError, Suspended};
 use trapeze_io::NoMemory;
 
-/// Copies the first bytes to a range of the guest, and answers how many there are.
+/// Copies the first bytes to a destination, a range of the guest, and answers how many there are.
 pub(crate) fn copied(
     mut suspended: Suspended,
     at: u32,

@@ -13,7 +13,7 @@ use std::alloc::Global;
 use std::marker::Model;
 use trapeze_io::Bytes;
 
-/// The bytes of a range, which has at most so many.
+/// A source: the bytes of a range, which has at most so many.
 pub(crate) fn source(
     alloc: Global,
     suspended: &Suspended,
@@ -36,7 +36,7 @@ pub(crate) fn source(
     }
 }
 
-/// The bytes of a range of at most 64, which may be a name, kept in place.
+/// A source that may be a name, kept in place.
 #[derive(Drop)]
 pub(crate) struct NameBytes {
     bytes: [u8; 64],

@@ -3,13 +3,12 @@
 ghost use Rattle.std.specs.Prelude.{◌≡◌, ◌<◌, List, ℕ, length, true, IfOk, OnErr};
 ghost use Rattle.std.specs.Option.{option_copied};
 ghost use Rattle.label_lattice.specs.Order.{count};
-ghost use Rattle.facet_list.specs.Rows.{IsValue};
 ghost use Rattle.wasm_ast.specs.declared.modules.Module.{Module};
 ghost use Rattle.wasm_exec.specs.Asking.{has_answer};
 ghost use Rattle.sandbox.specs.Threads.{IsWaiting, asked_of};
 ghost use Rattle.host_rules.specs.Wishes.{Reads, Writes};
 ghost use Rattle.host_rules.specs.Policies.{rules_of};
-ghost use Rattle.trapeze_io.specs.Sizes.{IsKey};
+ghost use Rattle.trapeze_io.specs.Sizes.{IsKey, IsValue};
 ghost use Rattle.shim_calls.specs.Performing.{IsFitPerformed, IsReadyPerformed};
 ghost use Rattle.shim_calls.specs.Wished.{Grants};
 
@@ -22,7 +21,7 @@ use sandbox::Suspended;
 use std::alloc::Global;
 use trapeze_io::{Bytes, NoMemory};
 
-/// Reads a key at a label, and copies its value to a range of the guest.
+/// Reads a key at a label, and copies its value, the latest visible facet, to a range of the guest.
 pub(crate) fn read<F: Facets>(
     alloc: Global,
     suspended: Suspended,

@@ -19,7 +19,7 @@ use Rattle.trapeze_cli.specs.declared.status.Status.TheVariants as status
 use Rattle.trapeze_cli.specs.Appends.{AppendsLess}
 use Rattle.trapeze_cli.specs.Ends.{SaysText}
 use Rattle.trapeze_cli.specs.Exercise.{count_of, exercise_lines, exercise_text}
-use Rattle.trapeze_cli.specs.Counts.{counts_of, counts_text, one_more, AtMost}
+use Rattle.trapeze_cli.specs.Counts.{counts_of, counts_text, counted_with, AtMost}
 use Rattle.trapeze_cli.proofs.Fronts.{less_of}
 
 same_counts : {a b : Counts} → a.replies ≡ b.replies → a.turns ≡ b.turns → a.idle ≡ b.idle → a.dropped ≡ b.dropped → a.full ≡ b.full → a.facets ≡ b.facets → a ≡ b
@@ -39,7 +39,7 @@ with_kind c kind = record {
 no_more : (n : ℕ) → n + 0 ≡ n
 no_more n = omega arith
 
-with_kind_is : (c : Counts) (kind : Kind) → with_kind c kind ≡ one_more c kind
+with_kind_is : (c : Counts) (kind : Kind) → with_kind c kind ≡ counted_with c kind
 with_kind_is c (Reply client id bytes) = same_counts refl (no_more c.turns) (no_more c.idle) (no_more c.dropped) (no_more c.full) (no_more c.facets)
 with_kind_is c (Turn number function id outcome) = same_counts (no_more c.replies) refl (no_more c.idle) (no_more c.dropped) (no_more c.full) (no_more c.facets)
 with_kind_is c (Idle number) = same_counts (no_more c.replies) (no_more c.turns) refl (no_more c.dropped) (no_more c.full) (no_more c.facets)
@@ -71,14 +71,14 @@ count_last word lines line =
 count_first : (word : List ℕ) (line : Line) (lines : List Line) → count_of word (line ∷ lines) ≡ count_of word lines + cond (bytes_eq (kind_word line.kind) word) 1 0
 count_first word line lines = more_long (bytes_eq (kind_word line.kind) word) line (filter (λ (l : Line). bytes_eq (kind_word l.kind) word) lines)
 
-pub counts_last : (lines : List Line) (line : Line) → counts_of (lines ++ line ∷ []) ≡ one_more (counts_of lines) line.kind
+pub counts_last : (lines : List Line) (line : Line) → counts_of (lines ++ line ∷ []) ≡ counted_with (counts_of lines) line.kind
 unfolding counts_of
 counts_last lines line =
     same_counts {b = with_kind (counts_of lines) line.kind} (count_last (codes "reply") lines line) (count_last (codes "turn") lines line) (count_last (codes "idle") lines line)
     (count_last (codes "drop") lines line) (count_last (codes "full") lines line) (count_last (codes "facet") lines line)
     ∙ with_kind_is (counts_of lines) line.kind
 
-counts_first : (line : Line) (lines : List Line) → counts_of (line ∷ lines) ≡ one_more (counts_of lines) line.kind
+counts_first : (line : Line) (lines : List Line) → counts_of (line ∷ lines) ≡ counted_with (counts_of lines) line.kind
 unfolding counts_of
 counts_first line lines =
     same_counts {b = with_kind (counts_of lines) line.kind} (count_first (codes "reply") line lines) (count_first (codes "turn") line lines) (count_first (codes "idle") line lines)
@@ -87,7 +87,7 @@ counts_first line lines =
 
 -- the next line of a list
 pub counts_next : (before lines : List Line) (i : ℕ) (line : Line) → i < length lines → line ≡ get_or lines i line
-    → counts_of (before ++ take (i + 1) lines) ≡ one_more (counts_of (before ++ take i lines)) line.kind
+    → counts_of (before ++ take (i + 1) lines) ≡ counted_with (counts_of (before ++ take i lines)) line.kind
 counts_next before lines i line within is =
     ap (λ ls. counts_of (before ++ ls)) (take_more lines i line within ∙ ap (λ l. take i lines ++ l ∷ []) (sym is))
     ∙ ap counts_of (sym (append_assoc before (take i lines) (line ∷ [])))
@@ -98,7 +98,7 @@ pub counts_none : (before : List Line) → counts_of (before ++ []) ≡ counts_o
 counts_none before = ap counts_of (append-nil before)
 
 -- a line that a run does not print is not counted
-not_counted : (c : Counts) (kind : Kind) → is_of_run kind ≡ false → one_more c kind ≡ c
+not_counted : (c : Counts) (kind : Kind) → is_of_run kind ≡ false → counted_with c kind ≡ c
 not_counted c (Reply client id bytes) other = absurd (cc)
 not_counted c (Turn number function id outcome) other = absurd (cc)
 not_counted c (Idle number) other = absurd (cc)
@@ -113,7 +113,7 @@ not_counted c (Start from function id) other = refl
 
 run_step : (b : Bool) (line : Line) (lines : List Line) → is_of_run line.kind ≡ b → counts_of (run_kinds lines) ≡ counts_of lines
     → counts_of (cond b (line ∷ run_kinds lines) (run_kinds lines)) ≡ counts_of (line ∷ lines)
-run_step true line lines is same = counts_first line (run_kinds lines) ∙ ap (λ c. one_more c line.kind) same ∙ sym (counts_first line lines)
+run_step true line lines is same = counts_first line (run_kinds lines) ∙ ap (λ c. counted_with c line.kind) same ∙ sym (counts_first line lines)
 run_step false line lines is same = same ∙ sym (not_counted (counts_of lines) line.kind is) ∙ sym (counts_first line lines)
 
 -- so the counts are those of the lines that a run prints
@@ -127,7 +127,7 @@ one_at_most : (b : Bool) (n most : ℕ) → n ≤ most → n + cond b 1 0 ≤ mo
 one_at_most true n most le = omega arith
 one_at_most false n most le = omega arith
 
-pub at_most_more : (most : ℕ) (c : Counts) (kind : Kind) → AtMost most c → AtMost (most + 1) (one_more c kind)
+pub at_most_more : (most : ℕ) (c : Counts) (kind : Kind) → AtMost most c → AtMost (most + 1) (counted_with c kind)
 at_most_more most c kind m = subst (λ (x : Counts). AtMost (most + 1) x) (with_kind_is c kind) (record {
   replies = one_at_most (bytes_eq (kind_word kind) (codes "reply")) c.replies most m.replies;
   turns = one_at_most (bytes_eq (kind_word kind) (codes "turn")) c.turns most m.turns;

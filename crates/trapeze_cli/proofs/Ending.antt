@@ -9,9 +9,9 @@ use Rattle.trapeze_cli.specs.declared.status.Status.{Status}
 use Rattle.trapeze_cli.specs.declared.status.Status.TheVariants as status
 use Rattle.trapeze_cli.specs.declared.status.Input.TheVariants as inputs
 use Rattle.trapeze_cli.specs.Runs.{Setting}
-use Rattle.trapeze_cli.specs.Playing.{Answers, GivesSome, IsOfPlay, file_in, texts_of}
+use Rattle.trapeze_cli.specs.Playing.{PlaysFile, GivesSome, IsOfPlay, file_in, texts_of}
 use Rattle.trapeze_cli.specs.Ends.{IsFileOf}
-use Rattle.trapeze_cli.specs.Steps.{IsCounted}
+use Rattle.trapeze_cli.specs.Steps.{FaultsRose}
 use Rattle.trapeze_cli.specs.Whys.{why, IfReadFailed}
 use Rattle.trapeze_cli.proofs.Refusals.{IfSome-map, IfSome-all}
 use Rattle.trapeze_cli.proofs.Fronts.{all_none, front_none}
@@ -23,17 +23,17 @@ opened_is P None new file is p = rw is tt
 opened_is P (Some o) new file is p = rw is p
 
 -- it could not be opened
-pub answers_unopened : (g : Setting) (old new : Option OpenFile) (out : Option (List ℕ)) → new ≡ started [] old → IfSome new (λ r. Answers g r (status.ReadFault inputs.Events) out out)
+pub answers_unopened : (g : Setting) (old new : Option OpenFile) (out : Option (List ℕ)) → new ≡ started [] old → IfSome new (λ r. PlaysFile g r (status.ReadFault inputs.Events) out out)
 answers_unopened g old new out is =
-    opened_is (λ r. Answers g r (status.ReadFault inputs.Events) out out) old new [] is (record {
+    opened_is (λ r. PlaysFile g r (status.ReadFault inputs.Events) out out) old new [] is (record {
       tells = (refl, refl, omega arith);
       ended = λ e. cc;
       past = λ e. cc;
       writes = all_none out ∙ ap (append_known out) (sym (said_nothing g));
     })
 
--- memory was wanting before it was read
-pub answers_none : (g : Setting) (current : Option OpenFile) (out : Option (List ℕ)) → IfSome current (λ r. Answers g r status.NoMemory out out)
+-- out of memory before it was read
+pub answers_none : (g : Setting) (current : Option OpenFile) (out : Option (List ℕ)) → IfSome current (λ r. PlaysFile g r status.NoMemory out out)
 answers_none g current out = IfSome-all current (λ r. record { tells = tt; ended = λ e. cc; past = λ e. cc; writes = front_none (texts_of g r).all out })
 
 -- the file that was not opened
@@ -62,10 +62,10 @@ opens_reads old mid new name one none g = OpensOne-read old mid new name g.0 one
 
 -- a read of the file failed
 pub counted_read : (old mid new : Seen) (name : List ℕ) (s : Status) → OpensOne old name mid → OpensNone mid new → IsOfPlay s (why s)
-    → (s ≡ status.ReadFault inputs.Events → Rose mid.faults new.faults) → IfReadFailed (why s) (λ i. IsCounted old new)
+    → (s ≡ status.ReadFault inputs.Events → Rose mid.faults new.faults) → IfReadFailed (why s) (λ i. FaultsRose old new)
 counted_read old mid new name s one none of k = by s of k
   where
-    by : (s : Status) → IsOfPlay s (why s) → (s ≡ status.ReadFault inputs.Events → Rose mid.faults new.faults) → IfReadFailed (why s) (λ i. IsCounted old new)
+    by : (s : Status) → IsOfPlay s (why s) → (s ≡ status.ReadFault inputs.Events → Rose mid.faults new.faults) → IfReadFailed (why s) (λ i. FaultsRose old new)
     by (status.ReadFault i) of k =
         let rose = k (ap status.ReadFault of) in
         record { rose = omega (arith, rose, one.faults); marked = omega (arith, rose, none.mark, one.mark, one.faults) }

@@ -18,7 +18,7 @@ use Rattle.trapeze_cli.specs.Opens.{Opened}
 use Rattle.trapeze_cli.specs.Promises.{ReadsEvents, IsRefusedCommand, EndsExercise, TellsMemory}
 use Rattle.trapeze_cli.specs.Said.{said, said_command}
 use Rattle.trapeze_cli.specs.Statuses.{Says as SaysLine, no_names, error_text, WithNames}
-use Rattle.trapeze_cli.specs.Steps.{Outcome}
+use Rattle.trapeze_cli.specs.Steps.{CallEnds}
 use Rattle.trapeze_cli.specs.Whys.{why, IfReadFailed}
 use Rattle.trapeze_cli.proofs.Refusals.{IfSome-all}
 use Rattle.trapeze_cli.proofs.Outcomes.{outcome_said_or_refused}
@@ -39,9 +39,9 @@ module _ (words : Option Command) (number : ℕ) (of : Some (Exercise number) �
   exercise_read held current = subst (λ (f : Option Form). ReadsEvents f held current) (ap on_files of) tt
 
   module _ (s : Status) (old new : Option (List ℕ)) (before now : ℕ) (k : SaysOrRefuses (exercise_text number) s old new before now) where
-    pub exercise_outcome : (held : Option Held) (current : Option OpenFile) → Outcome (IsTask words) held current s old new
+    pub exercise_outcome : (held : Option Held) (current : Option OpenFile) → CallEnds (IsTask words) held current s old new
     exercise_outcome held current =
-        subst (λ (c : Option Command). Outcome (IsTask c) held current s old new) of
+        subst (λ (c : Option Command). CallEnds (IsTask c) held current s old new) of
         (outcome_said_or_refused (IsTask (Some (Exercise number))) held current old new (exercise_text number) s before now (IfSome-all held (λ h. refl)) k)
 
     by_end : (P : Status → Type 0) → P status.Done → P status.WriteFault → P status.NoMemory → P s

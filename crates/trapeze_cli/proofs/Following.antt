@@ -11,7 +11,7 @@ use Rattle.event_file.specs.declared.entry.Entry.{Entry}
 use Rattle.event_file.specs.declared.fault.LineError.{LineError}
 use Rattle.event_file.proofs.Hearing.{short_heard}
 use Rattle.trapeze_cli.specs.Played.{AtEnd, AtBad, PastLimit, played_of, up_to}
-use Rattle.trapeze_cli.specs.Playing.{Passes, Fails, IsDry, Follows}
+use Rattle.trapeze_cli.specs.Playing.{Passes, FailsAt, IsDry, Follows}
 use Rattle.trapeze_cli.proofs.Hearing.{Begins}
 use Rattle.trapeze_cli.proofs.Passing.{after_both, nothing_after}
 
@@ -81,7 +81,7 @@ same_cond true past whole entries bad p w = ap (up_to PastLimit) p
 same_cond false past whole entries bad p w = ap (up_to AtEnd) w
 
 -- a bad line was met
-pub played_bad : (limit : ℕ) (known : Known) (given rest : List ℕ) (entries passed : List Entry) (r : Reader) (bad : LineError) → Follows known given entries r → Fails r passed bad
+pub played_bad : (limit : ℕ) (known : Known) (given rest : List ℕ) (entries passed : List Entry) (r : Reader) (bad : LineError) → Follows known given entries r → FailsAt r passed bad
     → length given ≤ limit → played_of limit known (given ++ rest) ≡ record { entries = entries ++ passed; end = AtBad bad }
 played_bad limit known given rest entries passed r bad f fails l =
     same_cond (nat_lt limit (length (given ++ rest))) (heard known (take limit (given ++ rest))) (entries_of known (given ++ rest)) (entries ++ passed) bad

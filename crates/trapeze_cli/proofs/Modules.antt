@@ -177,7 +177,7 @@ module_ends names f name all status old mid new is opens so e =
     (ends_first (before ++ source_of f name ∷ []) (module_sources (f + 1) (drop (f + 1) names)) (λ h r. AreModules h 0 names r) (λ h r. AreModules h 0 names r) status old new
     (IfSome-all old.held (λ h stop. stop)) here)
 
--- there was no memory for one more module
+-- out of memory for one more module
 pub memory_ends : (names : List (List ℕ)) (f : ℕ) (name : List ℕ) (old new : Seen) → slice_get names f ≡ Some name
     → OpensAll (names_of (module_sources 0 (take (f + 1) names))) old new → Ends (module_sources 0 names) (λ h r. AreModules h 0 names r) NoMemory old new
 memory_ends names f name old new is opens = record {

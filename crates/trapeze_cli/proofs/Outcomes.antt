@@ -11,10 +11,10 @@ use Rattle.trapeze_cli.specs.Appends.{AppendsAll, AppendsFront, AppendsLess}
 use Rattle.trapeze_cli.specs.Command.{Task, Plays, Says, Texts, answer_of_file, texts_by, status_at, events_limit}
 use Rattle.trapeze_cli.specs.Ends.{IsFileOf, SaysText, SaysOrRefuses}
 use Rattle.trapeze_cli.specs.Played.{played_of}
-use Rattle.trapeze_cli.specs.Playing.{Answers, IsOfPlay, file_in, played_in_file, texts_of}
+use Rattle.trapeze_cli.specs.Playing.{PlaysFile, IsOfPlay, file_in, played_in_file, texts_of}
 use Rattle.trapeze_cli.specs.Promises.{IsPrivate}
 use Rattle.trapeze_cli.specs.Runs.{Setting, text_of}
-use Rattle.trapeze_cli.specs.Steps.{IsRefused, Outcome}
+use Rattle.trapeze_cli.specs.Steps.{HasReason, CallEnds}
 use Rattle.trapeze_cli.specs.Whys.{Why, Finished, Refused, ReadFailed, why, given_of, IsAnswered, Writes}
 use Rattle.trapeze_cli.proofs.Refusals.{IfSome-map, IfSome-all}
 use Rattle.trapeze_cli.proofs.Fronts.{front_none}
@@ -23,7 +23,7 @@ use Rattle.trapeze_cli.proofs.Privacy.{private_by}
 module _ (tasks : Held → Result Task Status → Type 0) where
   module _ (held : Option Held) (current : Option OpenFile) (out : Option (List ℕ)) where
     -- a refusal that the files say
-    pub refused_as : (s : Status) → why s ≡ Refused → IfSome held (λ h. tasks h (Err s)) → Outcome tasks held current s out out
+    pub refused_as : (s : Status) → why s ≡ Refused → IfSome held (λ h. tasks h (Err s)) → CallEnds tasks held current s out out
     refused_as s is told = record {
       answered = subst (λ (x : Why). IsAnswered tasks held x s) (sym is)
           (IfSome-map held (λ h t. (record { status = s; out = [] }, record { task = Err s; is_task = t; answered = refl }, refl)) told);
@@ -39,8 +39,8 @@ module _ (tasks : Held → Result Task Status → Type 0) where
         failed e = cc
 
     -- a step before the event file ended the call
-    pub outcome_refused : {X : Type 0} (step : Held → Result X Status → Type 0) (s : Status) (old new : Seen) → old.held ≡ held → IsRefused step old new s (why s)
-        → IfSome held (λ h. step h (Err s) → tasks h (Err s)) → ¬ (s ≡ status.ReadFault inputs.Events) → Outcome tasks held current s out out
+    pub outcome_refused : {X : Type 0} (step : Held → Result X Status → Type 0) (s : Status) (old new : Seen) → old.held ≡ held → HasReason step old new s (why s)
+        → IfSome held (λ h. step h (Err s) → tasks h (Err s)) → ¬ (s ≡ status.ReadFault inputs.Events) → CallEnds tasks held current s out out
     outcome_refused step s old new same refused k never = by s refused k never
       where
         told : (s : Status) → IfSome old.held (λ h. step h (Err s)) → IfSome held (λ h. step h (Err s) → tasks h (Err s)) → IfSome held (λ h. tasks h (Err s))
@@ -50,7 +50,7 @@ module _ (tasks : Held → Result Task Status → Type 0) where
             both None p k = tt
             both (Some h) p k = k p
 
-        by : (s : Status) → IsRefused step old new s (why s) → IfSome held (λ h. step h (Err s) → tasks h (Err s)) → ¬ (s ≡ status.ReadFault inputs.Events) → Outcome tasks held current s out out
+        by : (s : Status) → HasReason step old new s (why s) → IfSome held (λ h. step h (Err s) → tasks h (Err s)) → ¬ (s ≡ status.ReadFault inputs.Events) → CallEnds tasks held current s out out
         by status.Done r k never = absurd r
         by status.WriteFault r k never = absurd r
         by (status.Events bad) r k never = absurd r
@@ -72,23 +72,23 @@ module _ (tasks : Held → Result Task Status → Type 0) where
 
   module _ (held : Option Held) (current : Option OpenFile) (old new : Option (List ℕ)) where
     -- a text was said
-    pub outcome_said : (said : List ℕ) (s : Status) (before now : ℕ) → IfSome held (λ h. tasks h (Ok (Says said))) → SaysText said s old new before now → Outcome tasks held current s old new
-    outcome_said said s before now told (inl (is, all)) = subst (λ (x : Status). Outcome tasks held current x old new) (sym is) (record {
+    pub outcome_said : (said : List ℕ) (s : Status) (before now : ℕ) → IfSome held (λ h. tasks h (Ok (Says said))) → SaysText said s old new before now → CallEnds tasks held current s old new
+    outcome_said said s before now told (inl (is, all)) = subst (λ (x : Status). CallEnds tasks held current x old new) (sym is) (record {
       answered = IfSome-map held (λ h t. (record { status = status.Done; out = said }, record { task = Ok (Says said); is_task = t; answered = refl }, refl)) told;
       written = IfSome-map held (λ h t. (Ok (Says said), t, all)) told;
       private = λ e. IfSome-map held (λ h t. (Says said, t, tt)) told;
       clean = λ e. cc;
     })
-    outcome_said said s before now told (inr (is, less, rose)) = subst (λ (x : Status). Outcome tasks held current x old new) (sym is) (record {
+    outcome_said said s before now told (inr (is, less, rose)) = subst (λ (x : Status). CallEnds tasks held current x old new) (sym is) (record {
       answered = tt;
       written = IfSome-map held (λ h t. (Ok (Says said), t, less)) told;
       private = λ e. cc;
       clean = λ e. cc;
     })
 
-    -- a text was said, or memory was refused
-    pub outcome_said_or_refused : (said : List ℕ) (s : Status) (before now : ℕ) → IfSome held (λ h. tasks h (Ok (Says said))) → SaysOrRefuses said s old new before now → Outcome tasks held current s old new
-    outcome_said_or_refused said s before now told (inl (is, same)) = subst (λ (x : Status). Outcome tasks held current x old new) (sym is) (record {
+    -- a text was said, or the call is out of memory
+    pub outcome_said_or_refused : (said : List ℕ) (s : Status) (before now : ℕ) → IfSome held (λ h. tasks h (Ok (Says said))) → SaysOrRefuses said s old new before now → CallEnds tasks held current s old new
+    outcome_said_or_refused said s before now told (inl (is, same)) = subst (λ (x : Status). CallEnds tasks held current x old new) (sym is) (record {
       answered = tt;
       written = IfSome-all held (λ h task t. subst (λ (o : Option (List ℕ)). AppendsFront [] (texts_by h task (given_of current)).all old o) (sym same) (front_none _ old));
       private = λ e. cc;
@@ -97,10 +97,10 @@ module _ (tasks : Held → Result Task Status → Type 0) where
     outcome_said_or_refused said s before now told (inr k) = outcome_said said s before now told k
 
     -- where the files held are not told
-    untold : (s : Status) → held ≡ None → IsOfPlay s (why s) → Outcome tasks held current s old new
-    untold s none of = subst (λ (o : Option Held). Outcome tasks o current s old new) (sym none) (by s of)
+    untold : (s : Status) → held ≡ None → IsOfPlay s (why s) → CallEnds tasks held current s old new
+    untold s none of = subst (λ (o : Option Held). CallEnds tasks o current s old new) (sym none) (by s of)
       where
-        by : (s : Status) → IsOfPlay s (why s) → Outcome tasks None current s old new
+        by : (s : Status) → IsOfPlay s (why s) → CallEnds tasks None current s old new
         by status.Done of = record { answered = tt; written = tt; private = λ e. tt; clean = λ e. tt }
         by (status.Events bad) of = record { answered = tt; written = tt; private = λ e. tt; clean = λ e. tt }
         by (status.TooLong inputs.Events) of = record { answered = tt; written = tt; private = λ e. tt; clean = λ e. tt }
@@ -119,7 +119,7 @@ module _ (tasks : Held → Result Task Status → Type 0) where
   module _ (h : Held) (r : OpenFile) (g : Setting) (name : List ℕ) (old new : Option (List ℕ)) (t : tasks h (Ok (Plays g name))) (order : IsOrdered g.rules) where
     -- to its end, to a bad line or past the limit
     finished_as : (s : Status) → why s ≡ Finished → h name ≡ Some (file_in r) → s ≡ status_at (played_in_file g r).end → AppendsAll (text_of g (played_in_file g r)) old new
-        → Outcome tasks (Some h) (Some r) s old new
+        → CallEnds tasks (Some h) (Some r) s old new
     finished_as s is file tells wrote = record {
       answered = subst (λ (x : Why). IsAnswered tasks (Some h) x s) (sym is)
           (answer_of_file g (h name), record { task = Ok (Plays g name); is_task = t; answered = refl }, tells ∙ ap (λ f. (answer_of_file g f).status) (sym file));
@@ -143,8 +143,8 @@ module _ (tasks : Held → Result Task Status → Type 0) where
     all_of : h name ≡ Some (file_in r) → (answer_of_file g (h name)).out ≡ text_of g (played_in_file g r)
     all_of file = ap (λ f. (answer_of_file g f).out) file
 
-    played_as : (s : Status) → Answers g r s old new → (h name ≡ Some (file_in r)) ⊎ (s ≡ status.ReadFault inputs.Events) → ((task : Result Task Status) → tasks h task → Ok (Plays g name) ≡ task)
-        → Outcome tasks (Some h) (Some r) s old new
+    played_as : (s : Status) → PlaysFile g r s old new → (h name ≡ Some (file_in r)) ⊎ (s ≡ status.ReadFault inputs.Events) → ((task : Result Task Status) → tasks h task → Ok (Plays g name) ≡ task)
+        → CallEnds tasks (Some h) (Some r) s old new
     played_as status.Done a (inl file) one = finished_as status.Done refl file a.tells a.writes
     played_as status.Done a (inr e) one = absurd (cc)
     played_as (status.Events bad) a (inl file) one = finished_as (status.Events bad) refl file a.tells a.writes
@@ -182,8 +182,8 @@ module _ (tasks : Held → Result Task Status → Type 0) where
 
   -- a file was played
   pub outcome_played : (held : Option Held) (current : Option OpenFile) (g : Setting) (name : List ℕ) (s : Status) (old new : Option (List ℕ))
-      → IfSome held (λ h. tasks h (Ok (Plays g name))) → IsOrdered g.rules → IfSome current (λ r. Answers g r s old new) → IsFileOf held name current s → IsOfPlay s (why s)
-      → (IsSome held → IsSome current) → ((h : Held) (a b : Result Task Status) → tasks h a → tasks h b → a ≡ b) → Outcome tasks held current s old new
+      → IfSome held (λ h. tasks h (Ok (Plays g name))) → IsOrdered g.rules → IfSome current (λ r. PlaysFile g r s old new) → IsFileOf held name current s → IsOfPlay s (why s)
+      → (IsSome held → IsSome current) → ((h : Held) (a b : Result Task Status) → tasks h a → tasks h b → a ≡ b) → CallEnds tasks held current s old new
   outcome_played None current g name s old new t order a f of told one = untold None current old new s refl of
   outcome_played (Some h) None g name s old new t order a f of told one = absurd (cc (told refl))
   outcome_played (Some h) (Some r) g name s old new t order a f of told one =

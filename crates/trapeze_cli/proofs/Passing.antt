@@ -17,7 +17,7 @@ use Rattle.host_rules.specs.Play.{trace, items_of}
 use Rattle.trapeze_cli.specs.declared.halt.Halt.{Halt}
 use Rattle.trapeze_cli.specs.Played.{AtEnd, end_at, entry_events, events_of}
 use Rattle.trapeze_cli.specs.Runs.{Setting}
-use Rattle.trapeze_cli.specs.Playing.{PlaysOn, Passes, Fails, Drains, said_of, text_from, lines_from}
+use Rattle.trapeze_cli.specs.Playing.{PlaysOn, Passes, FailsAt, Drains, said_of, text_from, lines_from}
 use Rattle.trapeze_cli.proofs.Showing.{said-append}
 use Rattle.trapeze_cli.proofs.Playing.{state_after, plays_both, plays_all}
 
@@ -83,7 +83,7 @@ nothing_after entries bad = ap (λ es. the es) (append-nil entries)
     the es = record { entries = es; bad = bad }
 
 pub passes_bad : (a b c : Reader) (entries : List Entry) (bad : LineError) → Passes a b entries
-    → ((more : List ℕ) → Continues entries_with b c (next.Bad bad) more) → ((more : List ℕ) → Continues heard_with b c (next.Bad bad) more) → Fails a entries bad
+    → ((more : List ℕ) → Continues entries_with b c (next.Bad bad) more) → ((more : List ℕ) → Continues heard_with b c (next.Bad bad) more) → FailsAt a entries bad
 passes_bad a b c entries bad p k h = record {
   all = λ more. p.all more ∙ ap (after entries) (k more) ∙ nothing_after entries (Some bad);
   counted = λ more. p.counted more ∙ ap (after entries) (h more) ∙ nothing_after entries (Some bad);

@@ -59,7 +59,7 @@ plays_one g before now event lines result old new state gave p = record {
   lines = λ s is. subst (λ ls. AppendsBy result (said_of g ls) old new) (gave s is ∙ sym (append-nil (step g.rules g.guest s (Happens event)).lines)) p;
 }
 
--- nothing was written for want of memory
+-- out of memory, nothing was written
 pub plays_nothing : {A : Type 0} (g : Setting) (before now : State Thread → Type 0) (events : List Event) (old : Option (List ℕ)) → PlaysOn {A = A} g before now events (Err NoMemory) old old
 plays_nothing g before now events old = record { state = tt; lines = λ s is. front_none (text_from g s (items_of events)) old }
 
@@ -115,7 +115,7 @@ plays_halt {A = A} {B = B} g before now events halt old new p = record {
   lines = λ s is. by_halt A B halt (text_from g s (items_of events)) old new (p.lines s is);
 }
 
--- all was played so far, and then memory was wanting
+-- all was played so far, and then the call is out of memory
 pub plays_no_more : {A B : Type 0} (g : Setting) (before mid now : State Thread → Type 0) (events : List Event) (b : B) (old new : Option (List ℕ))
     → PlaysOn g before mid events (Ok b) old new → PlaysOn {A = A} g before now events (Err NoMemory) old new
 plays_no_more {A = A} g before mid now events b old new p =

@@ -14,7 +14,7 @@ use Rattle.trapeze_cli.specs.declared.status.Status.{Status}
 use Rattle.trapeze_cli.specs.Command.{status_at}
 use Rattle.trapeze_cli.specs.Appends.{AppendsAll}
 use Rattle.trapeze_cli.specs.Played.{End, AtEnd, AtBad, PastLimit, Played, events_of}
-use Rattle.trapeze_cli.specs.Runs.{Setting, lines_to, lines_of, text_of}
+use Rattle.trapeze_cli.specs.Runs.{Setting, lines_to, lines_played, text_of}
 use Rattle.trapeze_cli.specs.Promises.{IsPrivate, shown_of}
 use Rattle.trapeze_cli.proofs.Showing.{shown_alike}
 
@@ -34,7 +34,7 @@ pub private_by : (g : Setting) (played : Played) (s : Status) (old new : Option 
     → IsPrivate g played s old new
 private_by g played s old new order is wrote = record {
   ended = is;
-  lines = lines_of g played;
+  lines = lines_played g played;
   written = wrote;
   private = λ o. shown_same g o played.end (items_of (events_of played.entries)) (view g.rules g.guest o (start []) (events_of played.entries))
       (noninterfering g.rules order g.guest o [] (events_of played.entries));

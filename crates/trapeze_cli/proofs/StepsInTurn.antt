@@ -11,7 +11,7 @@ use Rattle.trapeze_cli.specs.declared.status.Input.{Input}
 use Rattle.trapeze_cli.specs.Forms.{Source}
 use Rattle.trapeze_cli.specs.Whys.{Why, Finished, Refused, ReadFailed, WriteFailed, OutOfMemory, why, IfReadFailed}
 use Rattle.trapeze_cli.specs.Opens.{names_of, IsLast, OpensTo}
-use Rattle.trapeze_cli.specs.Steps.{IsCounted, IsRefused, Ends}
+use Rattle.trapeze_cli.specs.Steps.{FaultsRose, HasReason, Ends}
 
 -- the one file of a step was opened, and the step ended the call
 pub opens_one : (source : Source) (status : Status) (old new : Seen) → OpensAll (source.name ∷ []) old new → IsLast status source.input []
@@ -26,7 +26,7 @@ opens_one source status old new opens is = record {
 }
 
 -- a read of the one file failed
-pub read_failed : (old new : Seen) (name : List ℕ) → OpensOne old name new → Rose new.mark new.faults → IsCounted old new
+pub read_failed : (old new : Seen) (name : List ℕ) → OpensOne old name new → Rose new.mark new.faults → FaultsRose old new
 read_failed old new name one marked = record { rose = subst (λ (mark : ℕ). Rose mark new.faults) one.mark marked; marked = marked }
 
 pub names-append : (first second : List Source) → names_of (first ++ second) ≡ names_of first ++ names_of second
@@ -69,7 +69,7 @@ told_of P Q (Some h) mid same k p = k (subst (λ (o : Option Held). IfSome o P) 
 
 refused_by : {X Y : Type 0} (step : Held → Result X Status → Type 0) (whole : Held → Result Y Status → Type 0) (status : Status) (old mid new : Seen) (w : Why)
     → mid.held ≡ old.held → old.faults ≤ mid.faults → IfSome old.held (λ h. step h (Err status) → whole h (Err status))
-    → IsRefused step mid new status w → IsRefused whole old new status w
+    → HasReason step mid new status w → HasReason whole old new status w
 refused_by step whole status old mid new Finished same later k r = r
 refused_by step whole status old mid new Refused same later k r = told_of (λ h. step h (Err status)) (λ h. whole h (Err status)) old.held mid.held same k r
 refused_by step whole status old mid new (ReadFailed input) same later k r = record { rose = omega (arith, later, r.rose); marked = r.marked }
@@ -87,7 +87,7 @@ ends_later first second step whole status old mid new p k e = record {
 
 -- a step that ended the call before its files were all opened ended before others too
 pub last_more : {X : Type 0} (step : Held → Result X Status → Type 0) (old new : Seen) (status : Status) (input : Input) (after second : List Source)
-    → IsRefused step old new status (why status) → IsLast status input after → IsLast status input (after ++ second)
+    → HasReason step old new status (why status) → IsLast status input after → IsLast status input (after ++ second)
 last_more step old new Done input after second r is = absurd r
 last_more step old new WriteFault input after second r is = absurd r
 last_more step old new Usage input after second r is = is

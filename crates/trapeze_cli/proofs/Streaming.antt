@@ -26,7 +26,7 @@ use Rattle.trapeze_cli.specs.Runs.{Setting, lines_to, text_of, text_before, text
 use Rattle.trapeze_cli.specs.Command.{events_limit, piece, status_at}
 use Rattle.trapeze_cli.specs.Appends.{AppendsAll, AppendsFront, AppendsLess}
 use Rattle.trapeze_cli.specs.Whys.{why}
-use Rattle.trapeze_cli.specs.Playing.{AppendsBy, said_of, lines_from, IsDry, Drains, Follows, file_in, played_in_file, texts_of, WritesOf, Answers, status_of}
+use Rattle.trapeze_cli.specs.Playing.{AppendsBy, said_of, lines_from, IsDry, Drains, Follows, file_in, played_in_file, texts_of, WritesOf, PlaysFile, status_of}
 use Rattle.trapeze_cli.proofs.Showing.{said-append}
 use Rattle.trapeze_cli.proofs.Fronts.{by_after, front_after, front_wider, less_after, less_wider}
 use Rattle.trapeze_cli.proofs.Playing.{state_after, state_both, trace_both}
@@ -107,7 +107,7 @@ heard_text g given entries h = ap (λ (e : Entries). text_before g e.entries) h
 -- a read failed
 pub answers_fault : (g : Setting) (r : OpenFile) (given : List ℕ) (entries : List Entry) (reader : Reader) (old new : Option (List ℕ))
     → r.given ≡ given → length given ≤ events_limit → Follows g.known given entries reader → IsDry reader → AppendsAll (text_before g entries) old new
-    → Answers g r (status.ReadFault input.Events) old new
+    → PlaysFile g r (status.ReadFault input.Events) old new
 answers_fault g r given entries reader old new is l f d w =
     let h : heard g.known r.given ≡ record { entries = entries; bad = None } = ap (heard g.known) is ∙ heard_dry g.known given entries reader f d in
     record {
@@ -120,7 +120,7 @@ answers_fault g r given entries reader old new is l f d w =
 -- a byte past the limit came
 pub answers_past : (g : Setting) (r : OpenFile) (given over : List ℕ) (entries : List Entry) (reader : Reader) (old new : Option (List ℕ))
     → r.given ≡ given ++ over → length given ≡ events_limit → 0 < length over → Follows g.known given entries reader → IsDry reader
-    → AppendsAll (text_before g entries) old new → Answers g r (status.TooLong input.Events) old new
+    → AppendsAll (text_before g entries) old new → PlaysFile g r (status.TooLong input.Events) old new
 answers_past g r given over entries reader old new is l o f d w =
     let sc : played_in_file g r ≡ record { entries = entries; end = PastLimit } =
     ap (λ b. played_of events_limit g.known (b ++ r.rest)) is ∙ played_past events_limit g.known given over r.rest entries (heard_dry g.known given entries reader f d) l o in
@@ -131,10 +131,10 @@ answers_past g r given over entries reader old new is l o f d w =
       writes = w ∙ ap (λ (x : Played). append_known old (text_of g x)) (sym sc);
     }
 
--- memory was wanting for a piece
+-- out of memory for a piece
 pub answers_want : (g : Setting) (r : OpenFile) (given last : List ℕ) (entries : List Entry) (reader : Reader) (old new : Option (List ℕ))
     → r.given ≡ given ++ last → length given ≤ events_limit → Follows g.known given entries reader
-    → AppendsAll (text_before g entries) old new → Answers g r status.NoMemory old new
+    → AppendsAll (text_before g entries) old new → PlaysFile g r status.NoMemory old new
 answers_want g r given last entries reader old new is l f w = record {
   tells = tt;
   ended = λ e. cc;
@@ -153,7 +153,7 @@ pub answers_piece : (g : Setting) (r : OpenFile) (given last : List ℕ) (entrie
     → Follows g.known given entries reader → IsDry reader → Follows g.known (given ++ last) entries fed → Drains fed left passed result
     → AppendsAll (text_before g entries) old mid
     → AppendsBy result (said_of g (trace g.rules g.guest (state_after g (start []) (events_of entries)) (items_of (events_of passed)))) mid new
-    → ¬ (result ≡ Ok None) → Answers g r (status_of result) old new
+    → ¬ (result ≡ Ok None) → PlaysFile g r (status_of result) old new
 answers_piece g r given last entries passed reader fed left (Ok None) old mid new is short l f d f2 dr w p more = absurd (more refl)
 answers_piece g r given last entries passed reader fed left (Ok (Some bad)) old mid new is short l f d f2 dr w p more =
     let sc : played_in_file g r ≡ record { entries = entries ++ passed; end = AtBad bad } =
@@ -177,7 +177,7 @@ answers_piece g r given last entries passed reader fed left (Err halt) old mid n
     of_halt g r halt old new
     (halt_writes (Option LineError) g r given last halt first second s.others old mid new is short (heard_text g given entries (heard_dry g.known given entries reader f d)) all w p)
   where
-    of_halt : (g : Setting) (r : OpenFile) (halt : Halt) (old new : Option (List ℕ)) → WritesOf (texts_of g r) (why (status_of (Err halt))) old new → Answers g r (status_of (Err halt)) old new
+    of_halt : (g : Setting) (r : OpenFile) (halt : Halt) (old new : Option (List ℕ)) → WritesOf (texts_of g r) (why (status_of (Err halt))) old new → PlaysFile g r (status_of (Err halt)) old new
     of_halt g r Write old new w = record {
       tells = tt;
       ended = λ e. cc;
@@ -197,7 +197,7 @@ pub answers_end : (g : Setting) (r : OpenFile) (given : List ℕ) (entries : Lis
     → AppendsAll (text_before g entries) old mid
     → IfOk result (λ bad. (entries_with reader []).bad ≡ bad)
     → AppendsBy result (said_of g (lines_from g (end_at AtEnd (entries_with reader []).bad) (state_after g (start []) (events_of entries)) (events_of (entries_with reader []).entries))) mid new
-    → Answers g r (status_of result) old new
+    → PlaysFile g r (status_of result) old new
 answers_end g r given entries reader result old mid new is none l f d w ends p =
     let rest = entries_with reader [] in
     let bytes : file_in r ≡ given = ap (λ b. b ++ r.rest) is ∙ ap (λ b. given ++ b) none ∙ append-nil given in
@@ -209,7 +209,7 @@ answers_end g r given entries reader result old mid new is none l f d w ends p =
     (heard_text g given entries (heard_dry g.known given entries reader f d)) w
   where
     by_result : (result : Result (Option LineError) Halt) (first second : List ℕ) → text_of g (played_in_file g r) ≡ first ++ second → (bad : Option LineError) → (played_in_file g r).end ≡ end_at AtEnd bad
-        → IfOk result (λ b. bad ≡ b) → AppendsBy result second mid new → text_heard g given ≡ first → AppendsAll first old mid → Answers g r (status_of result) old new
+        → IfOk result (λ b. bad ≡ b) → AppendsBy result second mid new → text_heard g given ≡ first → AppendsAll first old mid → PlaysFile g r (status_of result) old new
     by_result (Ok None) first second all bad end ends p h w = record {
       tells = sym (ap status_at (end ∙ ap (end_at AtEnd) ends));
       ended = λ e. none;

@@ -20,7 +20,7 @@ use Rattle.trapeze_cli.specs.declared.status.Input.TheVariants.{Module as module
 use Rattle.trapeze_cli.specs.declared.status.ModuleFault.{ModuleFault}
 use Rattle.trapeze_cli.specs.declared.status.ModuleFault.TheVariants.{Decode, Invalid}
 use Rattle.trapeze_cli.specs.Forms.{Form, policy_name, Command, Exercise, OnFiles}
-use Rattle.trapeze_cli.specs.Command.{module_limit, file_of, policy_in, files_under, shown_in, IsFaulty, IsModule, AreModules, Ready, IsReady, Task, task_under, IsTaskUnder, IsTaskBy, IsTask, Answer, IsAnswer, answer_of}
+use Rattle.trapeze_cli.specs.Command.{module_limit, file_of, policy_in, files_under, shown_in, IsFaulty, IsModule, AreModules, Prepared, IsPrepared, Task, task_under, IsTaskUnder, IsTaskBy, IsTask, Answer, IsAnswer, answer_of}
 
 ok_one : {X : Type 0} (r : Result X Status) (a b : X) → r ≡ Ok a → r ≡ Ok b → a ≡ b
 ok_one {X = X} r a b p q = let e : ◌≡◌ {A = Result X Status} (Ok a) (Ok b) = sym p ∙ q in cc
@@ -116,7 +116,7 @@ module _ (held : Held) where
     never (Ok x) s e ok = absurd cc
     never (Err d) s e ok = absurd cc
 
-    one_ready : (r q : Result Ready Status) → IsReady held form policy r → IsReady held form policy q → r ≡ q
+    one_ready : (r q : Result Prepared Status) → IsPrepared held form policy r → IsPrepared held form policy q → r ≡ q
     one_ready (Ok a) (Ok b) p w =
         let shown : a.shown ≡ b.shown = ok_one (shown_in policy.names form) a.shown b.shown p.0 w.0 in
         let modules : a.modules ≡ b.modules = let e = one_modules (files_under policy) 0 (Ok a.modules) (Ok b.modules) p.1 w.1 in cc in

@@ -13,14 +13,14 @@ use Rattle.trapeze_cli.specs.declared.status.Status.{Status}
 use Rattle.trapeze_cli.specs.declared.status.Status.TheVariants as status
 use Rattle.trapeze_cli.specs.declared.status.Input.{Input}
 use Rattle.trapeze_cli.specs.declared.status.Input.TheVariants as inputs
-use Rattle.trapeze_cli.specs.Command.{AreModules, IsReady, Plays, Says, IsTaskUnder, task_under, check_text, files_under, shown_in, shown_to, setting_under}
+use Rattle.trapeze_cli.specs.Command.{AreModules, IsPrepared, Plays, Says, IsTaskUnder, task_under, check_text, files_under, shown_in, shown_to, setting_under}
 use Rattle.trapeze_cli.specs.Ends.{IsFileOf, SaysText}
 use Rattle.trapeze_cli.specs.Forms.{Form, Check, Play, OnFiles, Show, Run, Trace, View, Source, module_sources, event_sources, sources_of, policy_name}
 use Rattle.trapeze_cli.specs.Opens.{names_of, IsLast, OpensTo, IsReachedUnder}
-use Rattle.trapeze_cli.specs.Playing.{Answers, IsOfPlay}
+use Rattle.trapeze_cli.specs.Playing.{PlaysFile, IsOfPlay}
 use Rattle.trapeze_cli.specs.Promises.{IsRefusedCommand, ReadsAll, ReadsEvents}
 use Rattle.trapeze_cli.specs.Runs.{Setting, setting_of}
-use Rattle.trapeze_cli.specs.Steps.{IsCounted, Ends, IsReachedModule}
+use Rattle.trapeze_cli.specs.Steps.{FaultsRose, Ends, IsReachedModule}
 use Rattle.trapeze_cli.specs.Whys.{why, IfReadFailed}
 use Rattle.trapeze_cli.proofs.Refusals.{IfSome-map}
 use Rattle.trapeze_cli.proofs.StepsInTurn.{names-append, opens_first, opens_later, last_more}
@@ -68,7 +68,7 @@ module _ (form : Form) (w : Written) (parts : Parts) (as_written : IsAsWritten w
   unread_task shown s is h are = inr (ok_of (shown_in w.names form) shown (shown_under (Ok shown) is), modules_under h (Err s) are)
 
   pub ready_under : (shown : Shown) (modules : List Program) → shown_in parts.lattice.names form ≡ Ok shown → (h : Held) → AreModules h 0 parts.files (Ok modules)
-      → IsReady h form w (Ok (record { shown = shown; modules = modules }))
+      → IsPrepared h form w (Ok (record { shown = shown; modules = modules }))
   ready_under shown modules is h are = (shown_under (Ok shown) is, modules_under h (Ok modules) are)
 
   pub check_task : (name : List ℕ) (shown : Shown) (modules : List Program) → form ≡ Check name → shown_in parts.lattice.names form ≡ Ok shown → (h : Held) → AreModules h 0 parts.files (Ok modules)
@@ -129,7 +129,7 @@ failed_map (status.TooLong (inputs.Module f)) k p = tt
 failed_map (status.TooLong inputs.Events) k p = tt
 
 -- a read failed after other files were opened
-pub counted_later : (names : List (List ℕ)) (old mid new : Seen) (s : Status) → OpensAll names old mid → IfReadFailed (why s) (λ i. IsCounted mid new) → IfReadFailed (why s) (λ i. IsCounted old new)
+pub counted_later : (names : List (List ℕ)) (old mid new : Seen) (s : Status) → OpensAll names old mid → IfReadFailed (why s) (λ i. FaultsRose mid new) → IfReadFailed (why s) (λ i. FaultsRose old new)
 counted_later names old mid new s opens counted =
     failed_map s (λ i k. record { rose = omega (arith, k.rose, OpensAll-faults names old mid opens); marked = k.marked }) counted
 
@@ -252,7 +252,7 @@ no_usage files s old new opens is =
 -- the event file was read to its end
 
 pub reads_all : (g : Setting) (held : Option Held) (name : List ℕ) (current : Option OpenFile) (s : Status) (old new : Option (List ℕ)) → s ≡ status.Done
-    → IfSome current (λ r. Answers g r s old new) → IsFileOf held name current s → ReadsAll held name current
+    → IfSome current (λ r. PlaysFile g r s old new) → IsFileOf held name current s → ReadsAll held name current
 reads_all g held name None s old new is a f = tt
 reads_all g None name (Some r) s old new is a f = (a.ended is, tt)
 reads_all g (Some h) name (Some r) s old new is a (inl file) =
@@ -269,9 +269,9 @@ read_events form show name events held current of all = subst (λ (f : Form). Re
 
 -- the setting of the parts that were read is the one that is written
 pub answers_under : (w : Written) (parts : Parts) (as_written : IsAsWritten w parts) (modules : List Program) (shown : Shown) (current : Option OpenFile) (s : Status) (old new : Option (List ℕ))
-    → IfSome current (λ r. Answers (setting_of parts modules shown) r s old new) → IfSome current (λ r. Answers (setting_under w (record { shown = shown; modules = modules })) r s old new)
+    → IfSome current (λ r. PlaysFile (setting_of parts modules shown) r s old new) → IfSome current (λ r. PlaysFile (setting_under w (record { shown = shown; modules = modules })) r s old new)
 answers_under w parts as_written modules shown current s old new a =
-    IfSome-map current (λ r k. subst (λ (g : Setting). Answers g r s old new) (setting_same w parts as_written modules shown) k) a
+    IfSome-map current (λ r k. subst (λ (g : Setting). PlaysFile g r s old new) (setting_same w parts as_written modules shown) k) a
 
 -- the file is held under its name still
 pub file_later : (old mid : Option Held) (name : List ℕ) (current : Option OpenFile) (s : Status) → mid ≡ old → IsFileOf mid name current s → IsFileOf old name current s

@@ -15,7 +15,7 @@ use Rattle.trapeze_cli.specs.Command.{policy_in, Task, IsTaskUnder, IsTaskBy, Is
 use Rattle.trapeze_cli.specs.Forms.{Form, Check, Play, Command, OnFiles, on_files, policy_name, events_name, file_name, Source, module_sources, event_sources, sources_of}
 use Rattle.trapeze_cli.specs.Opens.{names_of, IsLast, OpensTo, files_by, files_in, AreFiles, Opened, opens_before, FailsToRead, IsReachedUnder, IsReached}
 use Rattle.trapeze_cli.specs.Promises.{OfTask, IsPrivateIn, IsClean, ReadsEvents}
-use Rattle.trapeze_cli.specs.Steps.{IsRefused, IsCounted, Ends, ReadsPolicy, Outcome}
+use Rattle.trapeze_cli.specs.Steps.{HasReason, FaultsRose, Ends, ReadsPolicy, CallEnds}
 use Rattle.trapeze_cli.specs.Whys.{Why, Finished, Refused, ReadFailed, WriteFailed, OutOfMemory, why, given_of, IsAnswered, Writes, IfReadFailed}
 use Rattle.trapeze_cli.proofs.Refusals.{IfSome-map, IfSome-all}
 use Rattle.trapeze_cli.proofs.StepsInTurn.{names-append, opens_first, last_more}
@@ -55,7 +55,7 @@ module _ (a b : Held → Result Task Status → Type 0) where
   of_task_map P None same k = tt
   of_task_map P (Some h) same (task, t, p) = (task, same.there (Ok task) t, p)
 
-  outcome_map : (held : Option Held) (current : Option OpenFile) (s : Status) (old new : Option (List ℕ)) → IfSome held (λ h. AreSame (a h) (b h)) → Outcome a held current s old new → Outcome b held current s old new
+  outcome_map : (held : Option Held) (current : Option OpenFile) (s : Status) (old new : Option (List ℕ)) → IfSome held (λ h. AreSame (a h) (b h)) → CallEnds a held current s old new → CallEnds b held current s old new
   outcome_map held current s old new same o = record {
     answered = answered_map held (why s) s same o.answered;
     written = writes_map held (given_of current) (why s) old new same o.written;
@@ -89,17 +89,17 @@ module _ (words : Option Command) (form : Form) (of : Some (OnFiles form) ≡ wo
     one_named = subst (λ n. OpensOne old n mid) named one
 
     pub outcome_read : (some : (w : Written) × IsAsWritten w parts) (current : Option OpenFile) (s : Status) (out out_now : Option (List ℕ))
-        → ((w : Written) → IsAsWritten w parts → Outcome (λ h t. IsTaskUnder h form w t) mid.held current s out out_now) → Outcome (IsTask words) old.held current s out out_now
+        → ((w : Written) → IsAsWritten w parts → CallEnds (λ h t. IsTaskUnder h form w t) mid.held current s out out_now) → CallEnds (IsTask words) old.held current s out out_now
     outcome_read some current s out out_now k = by old.held reads one.held
       where
-        by : (held : Option Held) → IfSome held (λ h. ReadsPolicy (policy_in h name) parts) → mid.held ≡ held → Outcome (IsTask words) held current s out out_now
+        by : (held : Option Held) → IfSome held (λ h. ReadsPolicy (policy_in h name) parts) → mid.held ≡ held → CallEnds (IsTask words) held current s out out_now
         by None reads same =
             outcome_map (λ h t. IsTaskUnder h form some.0 t) (IsTask words) None current s out out_now tt
-            (subst (λ (o : Option Held). Outcome (λ h t. IsTaskUnder h form some.0 t) o current s out out_now) same (k some.0 some.1))
+            (subst (λ (o : Option Held). CallEnds (λ h t. IsTaskUnder h form some.0 t) o current s out out_now) same (k some.0 some.1))
         by (Some h) reads same =
             outcome_map (λ h t. IsTaskUnder h form reads.written t) (IsTask words) (Some h) current s out out_now
             (subst (λ (b : Result Task Status → Type 0). AreSame (IsTaskUnder h form reads.written) b) (tasks_are h) (same_by form h reads.written (policy_in h name) reads.accepted))
-            (subst (λ (o : Option Held). Outcome (λ h t. IsTaskUnder h form reads.written t) o current s out out_now) same (k reads.written reads.as_written))
+            (subst (λ (o : Option Held). CallEnds (λ h t. IsTaskUnder h form reads.written t) o current s out out_now) same (k reads.written reads.as_written))
 
     pub files_read : AreFiles old.held form parts.files
     files_read = IfSome-map old.held (λ h r. r.as_written.files ∙ ap files_by (sym r.accepted) ∙ ap (λ n. files_by (policy_in h n)) named) reads
@@ -159,7 +159,7 @@ module _ (words : Option Command) (form : Form) (of : Some (OnFiles form) ≡ wo
     refused_by : (h : Held) → policy_in h name ≡ Err s → IsTask words h (Err s)
     refused_by h is = subst (λ (b : Result Task Status → Type 0). b (Err s)) (tasks_are h) (subst (λ (r : Result Written Status). IsTaskBy h form r (Err s)) (sym is) refl)
 
-    pub outcome_unread : (current : Option OpenFile) (out : Option (List ℕ)) → Outcome (IsTask words) old.held current s out out
+    pub outcome_unread : (current : Option OpenFile) (out : Option (List ℕ)) → CallEnds (IsTask words) old.held current s out out
     outcome_unread current out =
         outcome_refused (IsTask words) old.held current out (λ h r. policy_in h name ≡ r) s old new refl e.refused (IfSome-all old.held (λ h is. refused_by h is)) not_events
 
@@ -180,12 +180,12 @@ module _ (words : Option Command) (form : Form) (of : Some (OnFiles form) ≡ wo
     opened_unread = subst (λ (f : Option Form). Opened f s old new) (ap on_files of) (record { files = files_held old.held; of_policy = are_files old.held; opens = opens_unread (files_held old.held) })
 
     pub not_write : ¬ (s ≡ status.WriteFault)
-    not_write is = subst (λ (x : Status). IsRefused (λ h r. policy_in h name ≡ r) old new x (why x)) is e.refused
+    not_write is = subst (λ (x : Status). HasReason (λ h r. policy_in h name ≡ r) old new x (why x)) is e.refused
 
-    pub counted_unread : IfReadFailed (why s) (λ i. IsCounted old new)
+    pub counted_unread : IfReadFailed (why s) (λ i. FaultsRose old new)
     counted_unread = by s e.refused
       where
-        by : (s : Status) → IsRefused (λ h r. policy_in h name ≡ r) old new s (why s) → IfReadFailed (why s) (λ i. IsCounted old new)
+        by : (s : Status) → HasReason (λ h r. policy_in h name ≡ r) old new s (why s) → IfReadFailed (why s) (λ i. FaultsRose old new)
         by (status.ReadFault i) r = r
         by status.Done r = tt
         by status.Usage r = tt
@@ -284,10 +284,10 @@ form_place form files (b ∷ before) after last split =
 
 -- an input could not be opened or read
 pub fails : (words : Option Command) (form : Form) (of : Some (OnFiles form) ≡ words) (files : List (List ℕ)) (old new : Seen) (s : Status) → AreFiles old.held form files → length files ≤ 256
-    → OpensTo (sources_of form files) s old new → IfReadFailed (why s) (λ i. IsCounted old new) → IfReadFailed (why s) (λ i. FailsToRead (on_files words) i old new)
+    → OpensTo (sources_of form files) s old new → IfReadFailed (why s) (λ i. FaultsRose old new) → IfReadFailed (why s) (λ i. FailsToRead (on_files words) i old new)
 fails words form of files old new s are few opens counted = by s opens counted
   where
-    failed : (t : Status) (opens : OpensTo (sources_of form files) t old new) (i : Input) → opens.last.input ≡ i → IsCounted old new → FailsToRead (on_files words) i old new
+    failed : (t : Status) (opens : OpensTo (sources_of form files) t old new) (i : Input) → opens.last.input ≡ i → FaultsRose old new → FailsToRead (on_files words) i old new
     failed t opens i is k =
         let at : IsAt form files (length opens.before) opens.last = form_place form files opens.before opens.after opens.last opens.split in
         let up : AddsUp (names_of opens.before) opens.last.name old new = adds_up (names_of opens.before) opens.last.name old new (subst (λ names. OpensAll names old new) (names-append opens.before (opens.last ∷ [])) opens.opens) in
@@ -302,7 +302,7 @@ fails words form of files old new s are few opens counted = by s opens counted
           counted = IfSome-map old.opens (λ n next small. next (omega (arith, long, at.few, few, small)) ∙ ap (λ m. Some (n + m + 1)) number) up.opens;
         })
 
-    by : (t : Status) → OpensTo (sources_of form files) t old new → IfReadFailed (why t) (λ i. IsCounted old new) → IfReadFailed (why t) (λ i. FailsToRead (on_files words) i old new)
+    by : (t : Status) → OpensTo (sources_of form files) t old new → IfReadFailed (why t) (λ i. FaultsRose old new) → IfReadFailed (why t) (λ i. FailsToRead (on_files words) i old new)
     by (status.ReadFault i) o k = failed (status.ReadFault i) o i o.is_last k
     by status.Done o k = tt
     by status.Usage o k = tt
@@ -320,7 +320,7 @@ pub fails_unread : (words : Option Command) (form : Form) (of : Some (OnFiles fo
     → Ends (record { input = inputs.Policy; name = name } ∷ []) (λ h r. policy_in h name ≡ r) s old new → IfReadFailed (why s) (λ i. FailsToRead (on_files words) i old new)
 fails_unread words form of name named old new s e = by s e
   where
-    at_policy : (s : Status) (i : Input) → s ≡ status.ReadFault i → Ends (record { input = inputs.Policy; name = name } ∷ []) (λ h r. policy_in h name ≡ r) s old new → IsCounted old new → FailsToRead (on_files words) i old new
+    at_policy : (s : Status) (i : Input) → s ≡ status.ReadFault i → Ends (record { input = inputs.Policy; name = name } ∷ []) (λ h r. policy_in h name ≡ r) s old new → FaultsRose old new → FailsToRead (on_files words) i old new
     at_policy s i is e k =
         let last : inputs.Policy ≡ i = sym (last_policy words form of name named old new s e) ∙ subst (λ (x : Status). IsLast x e.opens.last.input e.opens.after) is e.opens.is_last in
         let first : e.opens.before ≡ [] = first_of (record { input = inputs.Policy; name = name }) e.opens.last e.opens.before e.opens.after e.opens.split in

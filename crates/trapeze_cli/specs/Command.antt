@@ -110,15 +110,15 @@ AreModules held f (name ∷ names) (Err status) =
     ⊎ ((program : Program) × IsModule held f name (Ok program) × AreModules held (f + 1) names (Err status))
 
 -- what a call has read before the event file, beside the policy
-pub record Ready : Type 0 where
+pub record Prepared : Type 0 where
   pub shown : Shown
   pub modules : List Program
 
 -- what is read under a policy before the event file, or the first refusal: of the label, and then of the modules
-abbrev pub IsReady : Held → Form → Written → Result Ready Status → Type 0
-IsReady held form policy (Ok ready) =
+abbrev pub IsPrepared : Held → Form → Written → Result Prepared Status → Type 0
+IsPrepared held form policy (Ok ready) =
     (shown_in policy.names form ≡ Ok ready.shown) × AreModules held 0 (files_under policy) (Ok ready.modules)
-IsReady held form policy (Err status) =
+IsPrepared held form policy (Err status) =
     (shown_in policy.names form ≡ Err status)
     ⊎ (IsOk (shown_in policy.names form) × AreModules held 0 (files_under policy) (Err status))
 
@@ -128,7 +128,7 @@ pub data Task : Type 0 where
   Says : List ℕ → Task
 
 -- what events are played on
-abbrev pub setting_under : Written → Ready → Setting
+abbrev pub setting_under : Written → Prepared → Setting
 setting_under policy ready = record {
   known = known_under policy;
   rules = rules_under policy;
@@ -142,7 +142,7 @@ check_text labels functions channels clients =
     codes "ok: " ++ decimal labels ++ codes " labels, " ++ decimal functions ++ codes " functions, "
     ++ decimal channels ++ codes " channels, " ++ decimal clients ++ codes " clients\n"
 
-abbrev pub task_under : Form → Written → Ready → Task
+abbrev pub task_under : Form → Written → Prepared → Task
 task_under (Check name) policy ready =
     Says (check_text (length policy.names) (length policy.functions) (length policy.channels) (length policy.clients))
 task_under (Play show name events) policy ready = Plays (setting_under policy ready) events
@@ -150,8 +150,8 @@ task_under (Play show name events) policy ready = Plays (setting_under policy re
 -- the task of a form under a policy, or the first refusal
 abbrev pub IsTaskUnder : Held → Form → Written → Result Task Status → Type 0
 IsTaskUnder held form policy (Ok task) =
-    (ready : Ready) × IsReady held form policy (Ok ready) × (task ≡ task_under form policy ready)
-IsTaskUnder held form policy (Err status) = IsReady held form policy (Err status)
+    (ready : Prepared) × IsPrepared held form policy (Ok ready) × (task ≡ task_under form policy ready)
+IsTaskUnder held form policy (Err status) = IsPrepared held form policy (Err status)
 
 -- so it is of a policy that was read, or was refused
 abbrev pub IsTaskBy : Held → Form → Result Written Status → Result Task Status → Type 0

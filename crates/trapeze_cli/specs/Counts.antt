@@ -19,18 +19,18 @@ counts_of lines = record {
 }
 
 -- a line more of a kind, which counts if a run prints it
-abbrev pub one_more : Counts → Kind → Counts
-one_more c (Reply client id bytes) = record c { replies = c.replies + 1 }
-one_more c (Turn number function id outcome) = record c { turns = c.turns + 1 }
-one_more c (Idle number) = record c { idle = c.idle + 1 }
-one_more c (Dropped function id) = record c { dropped = c.dropped + 1 }
-one_more c (Full key) = record c { full = c.full + 1 }
-one_more c (Facet key value) = record c { facets = c.facets + 1 }
-one_more c (Write key value) = c
-one_more c (Read key value) = c
-one_more c (Send channel bytes) = c
-one_more c (Answer client id bytes) = c
-one_more c (Start from function id) = c
+abbrev pub counted_with : Counts → Kind → Counts
+counted_with c (Reply client id bytes) = record c { replies = c.replies + 1 }
+counted_with c (Turn number function id outcome) = record c { turns = c.turns + 1 }
+counted_with c (Idle number) = record c { idle = c.idle + 1 }
+counted_with c (Dropped function id) = record c { dropped = c.dropped + 1 }
+counted_with c (Full key) = record c { full = c.full + 1 }
+counted_with c (Facet key value) = record c { facets = c.facets + 1 }
+counted_with c (Write key value) = c
+counted_with c (Read key value) = c
+counted_with c (Send channel bytes) = c
+counted_with c (Answer client id bytes) = c
+counted_with c (Start from function id) = c
 
 -- each count is at most so much
 pub record AtMost (most : ℕ) (c : Counts) : Type 0 where

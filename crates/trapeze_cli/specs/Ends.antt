@@ -19,7 +19,7 @@ SaysText said status old new before now =
     ((status ≡ Done) × AppendsAll said old new)
     ⊎ ((status ≡ WriteFault) × AppendsLess [] said old new × Rose before now)
 
--- the same, or memory was refused before anything was written
+-- the same, or out of memory before anything was written
 abbrev pub SaysOrRefuses : List ℕ → Status → Option (List ℕ) → Option (List ℕ) → ℕ → ℕ → Type 0
 SaysOrRefuses said status old new before now =
     ((status ≡ NoMemory) × (new ≡ old)) ⊎ SaysText said status old new before now

@@ -9,7 +9,7 @@ use Rattle.trapeze_cli.specs.declared.status.Status.TheVariants.{Done, Usage, Po
 use Rattle.trapeze_cli.specs.declared.status.Input.{Input}
 use Rattle.trapeze_cli.specs.declared.status.Input.TheVariants.{Policy as policy_input, Module as module_input, Events as events_input}
 use Rattle.trapeze_cli.specs.Forms.{Form, policy_name, Source, sources_of, file_name}
-use Rattle.trapeze_cli.specs.Command.{policy_in, files_under, shown_in, AreModules, Ready, IsReady}
+use Rattle.trapeze_cli.specs.Command.{policy_in, files_under, shown_in, AreModules, Prepared, IsPrepared}
 
 -- the input that was opened last, and the files that were not opened
 abbrev pub IsLast : Status → Input → List Source → Type 0
@@ -80,7 +80,7 @@ IsReachedUnder held form policy policy_input = ⊤
 IsReachedUnder held form policy (module_input f) =
     IsOk (shown_in policy.names form) × (f < length (files_under policy))
     × ((programs : List Program) × AreModules held 0 (take f (files_under policy)) (Ok programs))
-IsReachedUnder held form policy events_input = (ready : Ready) × IsReady held form policy (Ok ready)
+IsReachedUnder held form policy events_input = (ready : Prepared) × IsPrepared held form policy (Ok ready)
 
 -- all before an input was accepted
 abbrev pub IsReached : Option Form → Held → Input → Type 0

@@ -87,7 +87,7 @@ pub record Passes (old new : Reader) (entries : List Entry) : Type 0 where
   pub counted : (more : List ℕ) → heard_with old more ≡ after entries (heard_with new more)
 
 -- entries, and then a bad line, whatever bytes follow
-pub record Fails (old : Reader) (entries : List Entry) (bad : LineError) : Type 0 where
+pub record FailsAt (old : Reader) (entries : List Entry) (bad : LineError) : Type 0 where
   pub all : (more : List ℕ) → entries_with old more ≡ record { entries = entries; bad = Some bad }
   pub counted : (more : List ℕ) → heard_with old more ≡ record { entries = entries; bad = Some bad }
 
@@ -99,7 +99,7 @@ pub record IsDry (reader : Reader) : Type 0 where
 -- the lines kept were passed up to the end, up to a bad line, or up to a halt
 abbrev pub Drains : Reader → Reader → List Entry → Result (Option LineError) Halt → Type 0
 Drains old new entries (Ok None) = Passes old new entries × IsDry new
-Drains old new entries (Ok (Some bad)) = Fails old entries bad
+Drains old new entries (Ok (Some bad)) = FailsAt old entries bad
 Drains old new entries (Err halt) = Passes old new entries
 
 -- lines were drained, and their events played
@@ -152,7 +152,7 @@ WritesOf t WriteFailed old new = AppendsLess t.before t.all old new
 WritesOf t OutOfMemory old new = AppendsFront [] t.all old new
 
 -- the answer of the playing of a file
-pub record Answers (g : Setting) (r : OpenFile) (status : Status) (old new : Option (List ℕ)) : Type 0 where
+pub record PlaysFile (g : Setting) (r : OpenFile) (status : Status) (old new : Option (List ℕ)) : Type 0 where
   pub tells : Tells g r status (why status)
   pub ended : status ≡ Done → r.rest ≡ []
   pub past : status ≡ TooLong events_input → events_limit < length r.given

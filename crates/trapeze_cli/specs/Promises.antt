@@ -53,13 +53,13 @@ IsClean given (Plays g events) = ((heard g.known given).bad ≡ None) × (length
 IsClean given (Says said) = ⊤
 
 -- the status and the whole text are those of the answer
-pub record Gives (answer : Answer) (status : Status) (old new : Option (List ℕ)) : Type 0 where
+pub record GivesAnswer (answer : Answer) (status : Status) (old new : Option (List ℕ)) : Type 0 where
   pub answered : status ≡ answer.status
   pub whole : AppendsAll answer.out old new
 
 -- the words and the files say this answer, by the tasks that these are
 abbrev pub IsGiven : (Held → Result Task Status → Type 0) → Held → Status → Option (List ℕ) → Option (List ℕ) → Type 0
-IsGiven tasks held status old new = (answer : Answer) × IsAnswer tasks held answer × Gives answer status old new
+IsGiven tasks held status old new = (answer : Answer) × IsAnswer tasks held answer × GivesAnswer answer status old new
 
 -- the open file was read to its end, and is the one that is held under this name, where these are told
 abbrev pub ReadsAll : Option Held → List ℕ → Option OpenFile → Type 0
@@ -84,7 +84,7 @@ IsRefusedCommand (Some (Exercise number)) = ⊥
 IsRefusedCommand (Some (OnFiles (Check policy))) = ⊥
 IsRefusedCommand (Some (OnFiles (Play show policy events))) = IsOfLabel show
 
--- an exercise is done, or the output failed, or memory was refused
+-- an exercise is done, or the output failed, or the call is out of memory
 abbrev pub EndsExercise : Option Command → Status → Type 0
 EndsExercise None status = ⊤
 EndsExercise (Some (Exercise number)) status = (status ≡ Done) ⊎ ((status ≡ WriteFault) ⊎ (status ≡ NoMemory))

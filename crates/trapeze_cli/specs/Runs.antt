@@ -73,12 +73,12 @@ lines_to (AtBad bad) P M items = trace P M (start []) items
 lines_to PastLimit P M items = trace P M (start []) items
 
 -- the lines that are shown of what is played
-abbrev pub lines_of : Setting → Played → List Line
-lines_of g played = shown_lines g.rules g.shown (lines_to played.end g.rules g.guest (items_of (events_of played.entries)))
+abbrev pub lines_played : Setting → Played → List Line
+lines_played g played = shown_lines g.rules g.shown (lines_to played.end g.rules g.guest (items_of (events_of played.entries)))
 
 -- their text
 abbrev pub text_of : Setting → Played → List ℕ
-text_of g played = text g.rules.labels (lines_of g played)
+text_of g played = text g.rules.labels (lines_played g played)
 
 -- the text of entries, without facets
 abbrev pub text_before : Setting → List Entry → List ℕ

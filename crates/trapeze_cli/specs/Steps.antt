@@ -16,23 +16,23 @@ use Rattle.trapeze_cli.specs.Opens.{names_of, OpensTo}
 use Rattle.trapeze_cli.specs.Promises.{OfTask, IsPrivateIn, IsClean}
 
 -- the count of faults rose, and since the last open
-pub record IsCounted (old new : Seen) : Type 0 where
+pub record FaultsRose (old new : Seen) : Type 0 where
   pub rose : Rose old.faults new.faults
   pub marked : Rose new.mark new.faults
 
 -- what holds of a step that ended the call, by the reason of the status: a refusal is one that the files say
-abbrev pub IsRefused : {X : Type 0} → (Held → Result X Status → Type 0) → Seen → Seen → Status → Why → Type 0
-IsRefused step old new status Finished = ⊥
-IsRefused step old new status Refused = IfSome old.held (λ held. step held (Err status))
-IsRefused step old new status (ReadFailed input) = IsCounted old new
-IsRefused step old new status WriteFailed = ⊥
-IsRefused step old new status OutOfMemory = ⊤
+abbrev pub HasReason : {X : Type 0} → (Held → Result X Status → Type 0) → Seen → Seen → Status → Why → Type 0
+HasReason step old new status Finished = ⊥
+HasReason step old new status Refused = IfSome old.held (λ held. step held (Err status))
+HasReason step old new status (ReadFailed input) = FaultsRose old new
+HasReason step old new status WriteFailed = ⊥
+HasReason step old new status OutOfMemory = ⊤
 
 -- a step over these files ended the call with a status: they were opened up to the one that the status is of
 pub record Ends {X : Type 0} (sources : List Source) (step : Held → Result X Status → Type 0)
     (status : Status) (old new : Seen) : Type 0 where
   pub opens : OpensTo sources status old new
-  pub refused : IsRefused step old new status (why status)
+  pub refused : HasReason step old new status (why status)
 
 -- a step over these files opened them all and goes on, or ended the call
 abbrev pub Steps : {A X : Type 0} → List Source → (Held → Result X Status → Type 0) → Seen → Seen → Result A Status → Type 0
@@ -54,7 +54,7 @@ pub record IsReachedModule (held : Held) (files : List (List ℕ)) (input : Inpu
   pub before : AreModules held 0 (take function files) (Ok programs)
 
 -- how a call ends by its tasks: what it answered, what was written, that it is private, and that no bad line was heard where a read failed
-pub record Outcome (tasks : Held → Result Task Status → Type 0) (held : Option Held)
+pub record CallEnds (tasks : Held → Result Task Status → Type 0) (held : Option Held)
     (current : Option OpenFile) (status : Status) (old new : Option (List ℕ)) : Type 0 where
   pub answered : IsAnswered tasks held (why status) status
   pub written : Writes tasks held (given_of current) (why status) old new

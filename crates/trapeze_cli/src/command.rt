@@ -11,13 +11,13 @@ ghost use Rattle.trapeze_cli.specs.Command.{IsTask, IsTaskUnder, check_text, eve
 ghost use Rattle.trapeze_cli.specs.Ends.{IsFileOf, SaysText};
 ghost use Rattle.trapeze_cli.specs.Forms.{OnFiles, command_of, form_of, policy_name, sources_of};
 ghost use Rattle.trapeze_cli.specs.Opens.{Opened, OpensTo, FailsToRead, IsReached, IsReachedUnder};
-ghost use Rattle.trapeze_cli.specs.Playing.{Answers, IsOfPlay};
+ghost use Rattle.trapeze_cli.specs.Playing.{PlaysFile, IsOfPlay};
 ghost use Rattle.trapeze_cli.specs.Promises.{IsPrivateIn, OfTask, IsClean, IsGiven, ReadsEvents};
 ghost use Rattle.trapeze_cli.specs.Promises.{EndsExercise, IsRefusedCommand, TellsMemory};
 ghost use Rattle.trapeze_cli.specs.Runs.{setting_of, IsShownTo};
 ghost use Rattle.trapeze_cli.specs.Said.{said};
 ghost use Rattle.trapeze_cli.specs.Statuses.{WithNames, Says, error_text};
-ghost use Rattle.trapeze_cli.specs.Steps.{Outcome, IsCounted};
+ghost use Rattle.trapeze_cli.specs.Steps.{CallEnds, FaultsRose};
 ghost use Rattle.trapeze_cli.specs.Whys.{Finished, IsAnswered, Writes, IfReadFailed, given_of, why};
 
 use crate::exercise::exercise;
@@ -58,7 +58,7 @@ pub fn trapeze<F: Files, S: Sink, E: Sink>(
         (given_of (F.seen files.new).current) (why result) (S.written out.old) (S.written out.new) }
     ensures usage { command_of (map string_bytes words.now) ≡ None → result ≡ Status.Usage }
     ensures refused { result ≡ Status.Usage → IsRefusedCommand (command_of (map string_bytes words.now)) }
-    // An exercise is done, or the output failed, or memory was refused.
+    // An exercise is done, or the output failed, or the call is out of memory.
     ensures exercised { EndsExercise (command_of (map string_bytes words.now)) result }
     // At each status these files were opened and no others, each once; a file of events that was played to its end was read
     // to it.
@@ -118,11 +118,11 @@ fn under_policy<F: Files, S: Sink>(
     policy: &Policy,
     out: &mut S,
 ) -> Status
-    ensures outcome { (w : Written) → IsAsWritten w policy.now → Outcome (λ h t. IsTaskUnder h (said form.now) w t)
+    ensures outcome { (w : Written) → IsAsWritten w policy.now → CallEnds (λ h t. IsTaskUnder h (said form.now) w t)
         (F.seen files.old).held (F.seen files.new).current result (S.written out.old) (S.written out.new) }
     ensures opens { (before : Seen) → OpensOne before (policy_name (said form.now)) (F.seen files.old) →
         OpensTo (sources_of (said form.now) policy.now.files) result before (F.seen files.new) }
-    ensures counted { IfReadFailed (why result) (λ input. IsCounted (F.seen files.old) (F.seen files.new)) }
+    ensures counted { IfReadFailed (why result) (λ input. FaultsRose (F.seen files.old) (F.seen files.new)) }
     ensures reached { (w : Written) → IsAsWritten w policy.now → IfReadFailed (why result) (λ input.
         IfSome (F.seen files.old).held (λ held. IsReachedUnder held (said form.now) w input)) }
     ensures read { result ≡ Status.Done →
@@ -200,11 +200,11 @@ fn play_file<F: Files, S: Sink>(
     requires programs { length modules.now ≡ length scene.now.policy.now.functions }
     requires shown { IsShownTo (count scene.now.policy.now.lattice) scene.now.shown }
     ensures answers { IfSome (F.seen files.new).current (λ r.
-        Answers (setting_of scene.now.policy.now modules.now scene.now.shown) r result
+        PlaysFile (setting_of scene.now.policy.now modules.now scene.now.shown) r result
         (S.written out.old) (S.written out.new)) }
     ensures file { IsFileOf (F.seen files.old).held events.now (F.seen files.new).current result }
     ensures one { OpensOne (F.seen files.old) events.now (F.seen files.new) }
-    ensures counted { IfReadFailed (why result) (λ input. IsCounted (F.seen files.old) (F.seen files.new)) }
+    ensures counted { IfReadFailed (why result) (λ input. FaultsRose (F.seen files.old) (F.seen files.new)) }
     ensures write_fault { result ≡ Status.WriteFault → Rose (S.faults out.old) (S.faults out.new) }
     ensures of_play { IsOfPlay result (why result) }
 {

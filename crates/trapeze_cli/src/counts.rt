@@ -16,7 +16,7 @@ pub(crate) struct Counts {
 }
 
 impl Counts {
-    ghost use Rattle.trapeze_cli.specs.Counts.{counts_of, one_more, AtMost};
+    ghost use Rattle.trapeze_cli.specs.Counts.{counts_of, counted_with, AtMost};
     ghost use Rattle.trapeze_cli.specs.Counted.{TakesIn};
 
     /// The counts of no lines.
@@ -48,7 +48,7 @@ impl Counts {
     /// Counts one more line.
     fn count_kind(&mut self, kind: &Kind)
         requires { AtMost (2 ^ 80 + 2 ^ 64) self.old }
-        ensures { self.new ≡ one_more self.old kind.now }
+        ensures { self.new ≡ counted_with self.old kind.now }
     {
         match kind {
             Kind::Reply { .. } => self.replies += 1,

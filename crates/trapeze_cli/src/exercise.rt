@@ -8,7 +8,7 @@ ghost use Rattle.host_rules.specs.Play.{whole, items_of};
 ghost use Rattle.host_rules.specs.Policies.{rules_of};
 ghost use Rattle.host_rules.specs.States.{State, start};
 ghost use Rattle.host_rules.specs.Stores.{facet_lines};
-ghost use Rattle.trapeze_host.specs.Standing.{policy_in, modules_in, is_spent, played_in, known_in, Stands};
+ghost use Rattle.trapeze_host.specs.Standing.{policy_lent, modules_lent, is_spent, played_in, known_in, Stands};
 ghost use Rattle.trapeze_exercise.specs.BuiltIn.{known};
 ghost use Rattle.trapeze_exercise.specs.Generated.{all_generated};
 ghost use Rattle.trapeze_cli.specs.Counts.{counts_of, counts_text, AtMost};
@@ -125,9 +125,9 @@ fn count_events<T: Facets>(
 ) -> Result<(), NoMemory>
     requires unspent { is_spent host.old ≡ false }
     requires unplayed { played_in host.old ≡ 0 }
-    requires known { known_in (policy_in host.old) ≡ known }
+    requires known { known_in (policy_lent host.old) ≡ known }
     requires most { AtMost 0 counts.old }
-    ensures counted { OnOk result (Counted (rules_of (policy_in host.old)) (guest_of (modules_in host.old))
+    ensures counted { OnOk result (Counted (rules_of (policy_lent host.old)) (guest_of (modules_lent host.old))
         (Stands T.rows host.old) (Stands T.rows host.new) (all_generated number) counts.old counts.new) }
     ensures unspent { OnOk result (is_spent host.new ≡ false) }
     ensures most { OnOk result (AtMost (2 ^ 80) counts.new) }
@@ -148,13 +148,13 @@ fn count_event<T: Facets>(
 ) -> Result<(), NoMemory>
     requires unspent { is_spent host.old ≡ false }
     requires few { played_in host.old < 2 ^ 62 }
-    requires event { IsFit (known_in (policy_in host.old)) event.now }
+    requires event { IsFit (known_in (policy_lent host.old)) event.now }
     requires most { AtMost (2 ^ 80) counts.old }
-    ensures counted { OnOk result (Counted (rules_of (policy_in host.old)) (guest_of (modules_in host.old))
+    ensures counted { OnOk result (Counted (rules_of (policy_lent host.old)) (guest_of (modules_lent host.old))
         (Stands T.rows host.old) (Stands T.rows host.new) (event.now ∷ []) counts.old counts.new) }
     ensures unspent { OnOk result (is_spent host.new ≡ false) }
     ensures played { OnOk result (played_in host.new ≡ played_in host.old + 1) }
-    ensures lent { (policy_in host.new ≡ policy_in host.old) × (modules_in host.new ≡ modules_in host.old) }
+    ensures lent { (policy_lent host.new ≡ policy_lent host.old) × (modules_lent host.new ≡ modules_lent host.old) }
     ensures most { OnOk result ((most : ℕ) → AtMost most counts.old → AtMost (most + 2 ^ 64) counts.new) }
 {
     let mut lines = Lines::new(alloc);

@@ -10,7 +10,7 @@ ghost use Rattle.trapeze_lines.specs.Texts.{text};
 ghost use Rattle.wasm_semantics.specs.Threads.{Thread};
 ghost use Rattle.host_rules.specs.States.{State};
 ghost use Rattle.host_rules.specs.Stores.{facet_lines};
-ghost use Rattle.trapeze_host.specs.Standing.{policy_in, modules_in, is_spent, played_in, known_in, Stands};
+ghost use Rattle.trapeze_host.specs.Standing.{policy_lent, modules_lent, is_spent, played_in, known_in, Stands};
 ghost use Rattle.trapeze_cli.specs.Played.{entry_events};
 ghost use Rattle.trapeze_cli.specs.Runs.{setting_of, IsShownTo};
 ghost use Rattle.trapeze_cli.specs.Shows.{shows};
@@ -103,16 +103,16 @@ fn play_event<T: Facets, S: Sink>(
     page: &mut Page,
     out: &mut S,
 ) -> Result<(), Halt>
-    requires can { CanPlay scene.now.policy.now (policy_in host.old) (is_spent host.old) }
+    requires can { CanPlay scene.now.policy.now (policy_lent host.old) (is_spent host.old) }
     requires shown { IsShownTo (count scene.now.policy.now.lattice) scene.now.shown }
     requires few { played_in host.old < 2 ^ 62 }
     requires event { IsFit (known_in scene.now.policy.now) event.now }
-    ensures plays { PlaysOn (setting_of scene.now.policy.now (modules_in host.old) scene.now.shown)
+    ensures plays { PlaysOn (setting_of scene.now.policy.now (modules_lent host.old) scene.now.shown)
         (Stands T.rows host.old) (Stands T.rows host.new) (event.now ∷ []) result
         (S.written out.old) (S.written out.new) }
-    ensures goes_on { OnOk result (CanPlay scene.now.policy.now (policy_in host.new) (is_spent host.new)) }
+    ensures goes_on { OnOk result (CanPlay scene.now.policy.now (policy_lent host.new) (is_spent host.new)) }
     ensures counted { OnOk result (played_in host.new ≡ played_in host.old + 1) }
-    ensures modules { modules_in host.new ≡ modules_in host.old }
+    ensures modules { modules_lent host.new ≡ modules_lent host.old }
     ensures counts { CountsWrites result (S.faults out.old) (S.faults out.new) }
 {
     let mut lines = Lines::new(page.alloc);
@@ -129,16 +129,16 @@ fn play_times<T: Facets, S: Sink>(
     page: &mut Page,
     out: &mut S,
 ) -> Result<(), Halt>
-    requires can { CanPlay scene.now.policy.now (policy_in host.old) (is_spent host.old) }
+    requires can { CanPlay scene.now.policy.now (policy_lent host.old) (is_spent host.old) }
     requires shown { IsShownTo (count scene.now.policy.now.lattice) scene.now.shown }
     requires few { played_in host.old + times < 2 ^ 62 }
     requires event { IsFit (known_in scene.now.policy.now) event.now }
-    ensures plays { PlaysOn (setting_of scene.now.policy.now (modules_in host.old) scene.now.shown)
+    ensures plays { PlaysOn (setting_of scene.now.policy.now (modules_lent host.old) scene.now.shown)
         (Stands T.rows host.old) (Stands T.rows host.new) (replicate times event.now) result
         (S.written out.old) (S.written out.new) }
-    ensures goes_on { OnOk result (CanPlay scene.now.policy.now (policy_in host.new) (is_spent host.new)) }
+    ensures goes_on { OnOk result (CanPlay scene.now.policy.now (policy_lent host.new) (is_spent host.new)) }
     ensures counted { OnOk result (played_in host.new ≡ played_in host.old + times) }
-    ensures modules { modules_in host.new ≡ modules_in host.old }
+    ensures modules { modules_lent host.new ≡ modules_lent host.old }
     ensures counts { CountsWrites result (S.faults out.old) (S.faults out.new) }
 {
     'turns: for _turn in 0..times {
@@ -155,16 +155,16 @@ pub(crate) fn play_entry<T: Facets, S: Sink>(
     page: &mut Page,
     out: &mut S,
 ) -> Result<(), Halt>
-    requires can { CanPlay scene.now.policy.now (policy_in host.old) (is_spent host.old) }
+    requires can { CanPlay scene.now.policy.now (policy_lent host.old) (is_spent host.old) }
     requires shown { IsShownTo (count scene.now.policy.now.lattice) scene.now.shown }
     requires few { played_in host.old + most_turns < 2 ^ 62 }
     requires entry { IsWithin (known_in scene.now.policy.now) entry }
-    ensures plays { PlaysOn (setting_of scene.now.policy.now (modules_in host.old) scene.now.shown)
+    ensures plays { PlaysOn (setting_of scene.now.policy.now (modules_lent host.old) scene.now.shown)
         (Stands T.rows host.old) (Stands T.rows host.new) (entry_events entry) result
         (S.written out.old) (S.written out.new) }
-    ensures goes_on { OnOk result (CanPlay scene.now.policy.now (policy_in host.new) (is_spent host.new)) }
+    ensures goes_on { OnOk result (CanPlay scene.now.policy.now (policy_lent host.new) (is_spent host.new)) }
     ensures counted { OnOk result (played_in host.new ≤ played_in host.old + most_turns) }
-    ensures modules { modules_in host.new ≡ modules_in host.old }
+    ensures modules { modules_lent host.new ≡ modules_lent host.old }
     ensures counts { CountsWrites result (S.faults out.old) (S.faults out.new) }
 {
     match entry {
@@ -182,11 +182,11 @@ pub(crate) fn write_facets<T: Facets, S: Sink>(
     page: &mut Page,
     out: &mut S,
 ) -> Result<(), Halt>
-    requires can { CanPlay scene.now.policy.now (policy_in host.now) (is_spent host.now) }
+    requires can { CanPlay scene.now.policy.now (policy_lent host.now) (is_spent host.now) }
     requires shown { IsShownTo (count scene.now.policy.now.lattice) scene.now.shown }
     ensures lines { (s : State Thread) → Stands T.rows host.now s →
         AppendsBy result
-        (said_of (setting_of scene.now.policy.now (modules_in host.now) scene.now.shown) (facet_lines s.store))
+        (said_of (setting_of scene.now.policy.now (modules_lent host.now) scene.now.shown) (facet_lines s.store))
         (S.written out.old) (S.written out.new) }
     ensures counts { CountsWrites result (S.faults out.old) (S.faults out.new) }
 {

@@ -7,11 +7,11 @@ ghost use Rattle.label_lattice.specs.Order.{count};
 ghost use Rattle.event_file.specs.Reader.{entries_with};
 ghost use Rattle.wasm_semantics.specs.Threads.{Thread};
 ghost use Rattle.host_rules.specs.States.{State, start};
-ghost use Rattle.trapeze_host.specs.Standing.{policy_in, modules_in, is_spent, played_in, Stands};
+ghost use Rattle.trapeze_host.specs.Standing.{policy_lent, modules_lent, is_spent, played_in, Stands};
 ghost use Rattle.trapeze_cli.specs.Played.{AtEnd, end_at, events_of};
 ghost use Rattle.trapeze_cli.specs.Runs.{setting_of, IsShownTo};
 ghost use Rattle.trapeze_cli.specs.Playing.{AppendsBy, CountsWrites, CanPlay, IsPaced, IsDry, PlaysLines};
-ghost use Rattle.trapeze_cli.specs.Playing.{Answers, IsOfPlay, said_of, lines_from, status_of, GivesSome};
+ghost use Rattle.trapeze_cli.specs.Playing.{PlaysFile, IsOfPlay, said_of, lines_from, status_of, GivesSome};
 ghost use Rattle.trapeze_cli.specs.Whys.{why};
 
 use crate::halt::Halt;
@@ -38,14 +38,14 @@ fn play_lines<T: Facets, S: Sink>(
     out: &mut S,
 ) -> Result<Option<LineError>, Halt>
     requires good { reader.old.bad ≡ None }
-    requires can { CanPlay scene.now.policy.now (policy_in host.old) (is_spent host.old) }
+    requires can { CanPlay scene.now.policy.now (policy_lent host.old) (is_spent host.old) }
     requires shown { IsShownTo (count scene.now.policy.now.lattice) scene.now.shown }
     requires paced { IsPaced scene.now.policy.now reader.old (played_in host.old) }
-    ensures plays { PlaysLines (setting_of scene.now.policy.now (modules_in host.old) scene.now.shown)
+    ensures plays { PlaysLines (setting_of scene.now.policy.now (modules_lent host.old) scene.now.shown)
         (Stands T.rows host.old) (Stands T.rows host.new) reader.old reader.new result (S.written out.old) (S.written out.new) }
-    ensures goes_on { OnOk result (CanPlay scene.now.policy.now (policy_in host.new) (is_spent host.new)) }
+    ensures goes_on { OnOk result (CanPlay scene.now.policy.now (policy_lent host.new) (is_spent host.new)) }
     ensures paced { OnOk result (IsPaced scene.now.policy.now reader.new (played_in host.new)) }
-    ensures modules { modules_in host.new ≡ modules_in host.old }
+    ensures modules { modules_lent host.new ≡ modules_lent host.old }
     ensures counts { CountsWrites result (S.faults out.old) (S.faults out.new) }
 {
     'lines: loop {
@@ -67,13 +67,13 @@ fn play_end<T: Facets, S: Sink>(
     out: &mut S,
 ) -> Result<Option<LineError>, Halt>
     requires dry { IsDry reader.old }
-    requires can { CanPlay scene.now.policy.now (policy_in host.old) (is_spent host.old) }
+    requires can { CanPlay scene.now.policy.now (policy_lent host.old) (is_spent host.old) }
     requires shown { IsShownTo (count scene.now.policy.now.lattice) scene.now.shown }
     requires paced { IsPaced scene.now.policy.now reader.old (played_in host.old) }
     ensures bad { IfOk result (λ bad. (entries_with reader.old []).bad ≡ bad) }
     ensures lines { (s : State Thread) → Stands T.rows host.old s → AppendsBy result
-        (said_of (setting_of scene.now.policy.now (modules_in host.old) scene.now.shown)
-        (lines_from (setting_of scene.now.policy.now (modules_in host.old) scene.now.shown)
+        (said_of (setting_of scene.now.policy.now (modules_lent host.old) scene.now.shown)
+        (lines_from (setting_of scene.now.policy.now (modules_lent host.old) scene.now.shown)
         (end_at AtEnd (entries_with reader.old []).bad) s (events_of (entries_with reader.old []).entries))) (S.written out.old) (S.written out.new) }
     ensures counts { CountsWrites result (S.faults out.old) (S.faults out.new) }
 {
@@ -126,12 +126,12 @@ pub(crate) fn play_stream<F: Files, T: Facets, S: Sink>(
     out: &mut S,
 ) -> Status
     requires begun { IfSome (F.seen files.old).current (λ r. r.given ≡ []) }
-    requires can { CanPlay scene.now.policy.now (policy_in host.old) (is_spent host.old) }
+    requires can { CanPlay scene.now.policy.now (policy_lent host.old) (is_spent host.old) }
     requires shown { IsShownTo (count scene.now.policy.now.lattice) scene.now.shown }
     requires unplayed { played_in host.old ≡ 0 }
     requires stands { Stands T.rows host.old (start []) }
     ensures answers { IfSome (F.seen files.new).current (λ r.
-        Answers (setting_of scene.now.policy.now (modules_in host.old) scene.now.shown) r result
+        PlaysFile (setting_of scene.now.policy.now (modules_lent host.old) scene.now.shown) r result
         (S.written out.old) (S.written out.new)) }
     ensures given { GivesSome (F.seen files.old).current (F.seen files.new).current }
     ensures none { OpensNone (F.seen files.old) (F.seen files.new) }

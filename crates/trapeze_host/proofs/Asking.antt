@@ -9,7 +9,7 @@ use Rattle.trapeze_host.specs.declared.kept.Serving.{Serving}
 use Rattle.trapeze_host.specs.declared.requests.Requests.{Requests}
 use Rattle.trapeze_host.specs.Loans.{Loan}
 use Rattle.trapeze_host.specs.Requests.{taken_of, answered_of}
-use Rattle.trapeze_host.specs.Keeping.{state_of, Keeps, IsServed, IsFit}
+use Rattle.trapeze_host.specs.Keeping.{state_of, Keeps, IsServed, IsFitActivation}
 use Rattle.trapeze_host.proofs.Keeping.{for_state}
 use Rattle.trapeze_host.proofs.Tables.{by_same}
 use Rattle.trapeze_host.proofs.Counts.{AreMore}
@@ -41,7 +41,7 @@ keeps_taken {F} rows loan k t l n s keeps number taken answered = for_state rows
 
 -- the activation of an ask is fit
 pub fit_asked : (loan : Loan) (r : Requests) (function used : ℕ) (input : List ℕ) (x : Serving) → function < length loan.policy.functions → length input ≤ 65536 → IsServed loan r x
-    → IsFit loan r (record { function = function; input = input; serves = Some x; sandbox = None; used = used })
+    → IsFitActivation loan r (record { function = function; input = input; serves = Some x; sandbox = None; used = used })
 fit_asked loan r function used input x f i served = record {
   function = f;
   input = i;

@@ -14,7 +14,7 @@ use Rattle.shim_calls.specs.declared.effect.ShimTrap.{ShimTrap}
 use Rattle.shim_calls.specs.declared.effect.Effect.{Effect}
 use Rattle.shim_calls.specs.declared.effect.Performed.{Performed}
 use Rattle.shim_calls.specs.declared.effect.Performed.TheVariants as performed
-use Rattle.shim_calls.specs.Performing.{asked_in, cause_of, Performs}
+use Rattle.shim_calls.specs.Performing.{asked_in, cause_of_call, Performs}
 use Rattle.host_rules.specs.Policies.{rules_of}
 use Rattle.host_rules.specs.Modules.{guest_of}
 use Rattle.host_rules.specs.States.{Activation, State}
@@ -69,9 +69,9 @@ module _ {F : Type 0} (rows : F → Rows) (loan : Loan) (k : Kept F) (facets : F
       let p = subst PerformsHere e here in
       raised_so rows loan k facets (rules_in loan) (module_in loan r.function) r.at.number (run_of before r) s keeps called rest label.number (thread_of (module_in loan r.function) next) lines p.0 p.1
 
-  pub call_traps : (trap : ShimTrap) → done ≡ performed.Trapped trap → (cause : Cause) → cause ≡ cause_of trap → (lines : List Line)
+  pub call_traps : (trap : ShimTrap) → done ≡ performed.Trapped trap → (cause : Cause) → cause ≡ cause_of_call trap → (lines : List Line)
       → Owes rows loan (run_calls loan r before suspended rest s) after_write lines lines (ends_so (Trapped cause))
   call_traps trap e cause is lines =
       let p = subst PerformsHere e here in
       subst (λ (cause : Cause). Owes rows loan (run_calls loan r before suspended rest s) after_write lines lines (ends_so (Trapped cause))) (sym is)
-      (trapped_so rows loan k facets (rules_in loan) (module_in loan r.function) r.at.number (run_of before r) s keeps called rest (cause_of trap) lines p.0 p.1)
+      (trapped_so rows loan k facets (rules_in loan) (module_in loan r.function) r.at.number (run_of before r) s keeps called rest (cause_of_call trap) lines p.0 p.1)

@@ -19,7 +19,7 @@ use Rattle.trapeze_host.specs.declared.requests.Requests.{Requests}
 use Rattle.trapeze_host.specs.declared.runs.Run.{Run}
 use Rattle.trapeze_host.specs.declared.runs.Ending.TheVariants as ending
 use Rattle.trapeze_host.specs.Loans.{Loan, rules_in, module_in}
-use Rattle.trapeze_host.specs.Keeping.{activation_of, Keeps, IsFit}
+use Rattle.trapeze_host.specs.Keeping.{activation_of, Keeps, IsFitActivation}
 use Rattle.trapeze_host.specs.Turning.{run_ends, run_waits, run_closes, IsRun}
 use Rattle.trapeze_host.proofs.Keeping.{keeps_list, list_here}
 use Rattle.trapeze_host.proofs.Tables.{by_same}
@@ -96,7 +96,7 @@ module _ {F : Type 0} (rows : F → Rows) (loan : Loan) (k : Kept F) (queues : L
 
 -- the activation of a run is fit, with a sandbox that can go on
 pub fit_run : (loan : Loan) (requests : Requests) (r : Run) (sandbox : Sandbox) (used : ℕ) → IsRun loan requests r → IsReady (module_in loan r.function) sandbox
-    → IsFit loan requests (record { function = r.function; input = r.input; serves = r.serves; sandbox = Some sandbox; used = used })
+    → IsFitActivation loan requests (record { function = r.function; input = r.input; serves = r.serves; sandbox = Some sandbox; used = used })
 fit_run loan requests r sandbox used is ready = record {
   function = is.function;
   input = is.input;

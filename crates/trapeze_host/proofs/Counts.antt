@@ -8,7 +8,7 @@ use Rattle.trapeze_host.specs.declared.kept.Serving.{Serving}
 use Rattle.trapeze_host.specs.declared.requests.Requests.{Requests}
 use Rattle.trapeze_host.specs.Loans.{Loan}
 use Rattle.trapeze_host.specs.declared.runs.Run.{Run}
-use Rattle.trapeze_host.specs.Keeping.{IsServed, IsFit, IsSound, HasSameNumbers, KeepsMembers}
+use Rattle.trapeze_host.specs.Keeping.{IsServed, IsFitActivation, IsSound, HasSameNumbers, KeepsMembers}
 use Rattle.trapeze_host.specs.Turning.{IsRun}
 use Rattle.trapeze_host.specs.Requests.{labels_of, taken_of, HasRoom}
 
@@ -24,7 +24,7 @@ module _ (loan : Loan) (r t : Requests) (more : AreMore r t) where
     request = record { from_one = h.request.from_one; to_last = omega (arith, h.request.to_last, more x.request.label.number) };
   }
 
-  pub fit_more : (a : Activation) → IsFit loan r a → IsFit loan t a
+  pub fit_more : (a : Activation) → IsFitActivation loan r a → IsFitActivation loan t a
   fit_more a h = record { function = h.function; input = h.input; serves = λ x e. served_more x (h.serves x e); ready = h.ready }
 
 pub sound_more : {F : Type 0} (limits : F → List Limits) (loan : Loan) (k : Kept F) (t : Requests) → IsSound limits loan k → AreMore k.requests t → labels_of t ≡ labels_of k.requests → HasRoom t

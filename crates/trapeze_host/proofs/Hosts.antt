@@ -16,16 +16,16 @@ use Rattle.host_rules.specs.States.{State, Moved}
 use Rattle.host_rules.specs.Stores.{facet_line, facet_lines}
 use Rattle.trapeze_host.specs.Adding.{Adds, KeepsLabelled}
 use Rattle.trapeze_host.specs.Loans.{known_in}
-use Rattle.trapeze_host.specs.Keeping.{Held, IsHeld, Keeps, Made, Makes, AreFew, AreCounted}
-use Rattle.trapeze_host.specs.Standing.{policy_in, modules_in, is_spent, played_in, Stands, Plays, Moves}
+use Rattle.trapeze_host.specs.Keeping.{HostParts, IsHeld, Keeps, Made, Makes, AreFew, AreCounted}
+use Rattle.trapeze_host.specs.Standing.{policy_lent, modules_lent, is_spent, played_in, Stands, Plays, Moves}
 
-module _ {F : Type 0} (h : Held F) where
-  pub policy_is : policy_in h ≡ h.lent.policy
-  unfolding policy_in
+module _ {F : Type 0} (h : HostParts F) where
+  pub policy_is : policy_lent h ≡ h.lent.policy
+  unfolding policy_lent
   policy_is = refl
 
-  pub modules_are : modules_in h ≡ h.lent.modules
-  unfolding modules_in
+  pub modules_are : modules_lent h ≡ h.lent.modules
+  unfolding modules_lent
   modules_are = refl
 
   pub spent_is : is_spent h ≡ h.spent
@@ -49,21 +49,21 @@ module _ {F : Type 0} (h : Held F) where
   as_moves rows (Err x) m before after part = part
 
 -- the host by its fields
-module _ {F : Type 0} (x h : Held F) (e : x ≡ h) where
+module _ {F : Type 0} (x h : HostParts F) (e : x ≡ h) where
   pub stands_inside : (rows : F → Rows) (s : State Thread) → Stands rows h s → Keeps rows x.lent x.kept s
-  stands_inside rows s stands = subst (λ (h : Held F). Keeps rows h.lent h.kept s) (sym e) (stands_as h rows s stands)
+  stands_inside rows s stands = subst (λ (h : HostParts F). Keeps rows h.lent h.kept s) (sym e) (stands_as h rows s stands)
 
-  pub policy_inside : policy_in h ≡ x.lent.policy
-  policy_inside = policy_is h ∙ ap (λ (h : Held F). h.lent.policy) (sym e)
+  pub policy_inside : policy_lent h ≡ x.lent.policy
+  policy_inside = policy_is h ∙ ap (λ (h : HostParts F). h.lent.policy) (sym e)
 
-  pub modules_inside : modules_in h ≡ x.lent.modules
-  modules_inside = modules_are h ∙ ap (λ (h : Held F). h.lent.modules) (sym e)
+  pub modules_inside : modules_lent h ≡ x.lent.modules
+  modules_inside = modules_are h ∙ ap (λ (h : HostParts F). h.lent.modules) (sym e)
 
   pub spent_inside : is_spent h ≡ x.spent
-  spent_inside = spent_is h ∙ ap (λ (h : Held F). h.spent) (sym e)
+  spent_inside = spent_is h ∙ ap (λ (h : HostParts F). h.spent) (sym e)
 
   pub played_inside : played_in h ≡ x.played
-  played_inside = played_is h ∙ ap (λ (h : Held F). h.played) (sym e)
+  played_inside = played_is h ∙ ap (λ (h : HostParts F). h.played) (sym e)
 
   -- no number is too high to be raised
   pub few_inside : (limits : F → List Limits) → IsHeld limits x → is_spent h ≡ false → played_in h < 2 ^ 62 → AreFew x.kept
@@ -74,10 +74,10 @@ module _ {F : Type 0} (x h : Held F) (e : x ≡ h) where
         requests = λ l. omega (arith, counted.requests l, played_inside, few);
       }
 
-  pub event_inside : (event : Event) → IsFit (known_in (policy_in h)) event → IsFit (known_in x.lent.policy) event
+  pub event_inside : (event : Event) → IsFit (known_in (policy_lent h)) event → IsFit (known_in x.lent.policy) event
   event_inside event fit = subst (λ (p : Parts). IsFit (known_in p) event) policy_inside fit
 
-  pub labelled_inside : (before after : List Line) → KeepsLabelled (count x.lent.policy.lattice) before after → KeepsLabelled (count (policy_in h).lattice) before after
+  pub labelled_inside : (before after : List Line) → KeepsLabelled (count x.lent.policy.lattice) before after → KeepsLabelled (count (policy_lent h).lattice) before after
   labelled_inside before after keeps = subst (λ (p : Parts). KeepsLabelled (count p.lattice) before after) (sym policy_inside) keeps
 
   -- the lines of the facets
@@ -87,9 +87,9 @@ module _ {F : Type 0} (x h : Held F) (e : x ≡ h) where
       (ap (λ (r : Rows). map facet_line (facets_in r)) (stands_inside rows s stands).store ∙ ap (map facet_line) (facets_in_of s.store)) adds
 
   -- what holds of what the fields were lent holds of what the host was lent
-  pub by_lent : (Q : Parts → List Module → Type 0) → Q x.lent.policy x.lent.modules → Q (policy_in h) (modules_in h)
-  by_lent Q q = subst (λ (ms : List Module). Q (policy_in h) ms) (sym modules_inside) (subst (λ (p : Parts). Q p x.lent.modules) (sym policy_inside) q)
+  pub by_lent : (Q : Parts → List Module → Type 0) → Q x.lent.policy x.lent.modules → Q (policy_lent h) (modules_lent h)
+  by_lent Q q = subst (λ (ms : List Module). Q (policy_lent h) ms) (sym modules_inside) (subst (λ (p : Parts). Q p x.lent.modules) (sym policy_inside) q)
 
 -- the move was made, so the host stands for the state after it
-pub as_plays : {F : Type 0} (h : Held F) (rows : F → Rows) (m : Moved Thread) (before after : List Line) → Made rows h.lent m h.kept before after → Plays rows m h before after
+pub as_plays : {F : Type 0} (h : HostParts F) (rows : F → Rows) (m : Moved Thread) (before after : List Line) → Made rows h.lent m h.kept before after → Plays rows m h before after
 as_plays h rows m before after made = record { stands = as_stands h rows m.state made.keeps; lines = made.lines }

@@ -9,11 +9,11 @@ use Rattle.label_queues.specs.Lists.{Lists, list_of, with_list}
 use Rattle.trapeze_host.specs.declared.kept.Activation.{Activation}
 use Rattle.trapeze_host.specs.declared.kept.Kept.{Kept}
 use Rattle.trapeze_host.specs.Loans.{Loan}
-use Rattle.trapeze_host.specs.Keeping.{IsFit, IsSound, KeepsMembers}
+use Rattle.trapeze_host.specs.Keeping.{IsFitActivation, IsSound, KeepsMembers}
 
 -- the new list of a label is fit, so all is sound
 pub sound_list : {F : Type 0} (limits : F → List Limits) (loan : Loan) (k : Kept F) (queues : Lists Activation) (l : ℕ) (xs : List Activation) → IsSound limits loan k → l < length k.queues.lists
-    → queues ≡ with_list k.queues l xs → All (IsFit loan k.requests) xs → IsSound limits loan (record k { queues = queues })
+    → queues ≡ with_list k.queues l xs → All (IsFitActivation loan k.requests) xs → IsSound limits loan (record k { queues = queues })
 sound_list {F} limits loan k queues l xs sound h e fit = subst (λ (q : Lists Activation). IsSound limits loan (record k { queues = q })) (sym e) (record {
   limited = sound.limited;
   stored = sound.stored;
@@ -25,9 +25,9 @@ sound_list {F} limits loan k queues l xs sound h e fit = subst (λ (q : Lists Ac
   fit = λ m. at m (cases_eq m l);
 })
   where
-    at : (m : ℕ) → (m ≡ l) ⊎ (m ≢ l) → All (IsFit loan k.requests) (get_or (set k.queues.lists l xs) m [])
-    at m (inl f) = subst (All (IsFit loan k.requests)) (sym (ap (λ m. get_or (set k.queues.lists l xs) m []) f ∙ get_or-set_same k.queues.lists l xs [] h)) fit
-    at m (inr n) = subst (All (IsFit loan k.requests)) (sym (get_or-set_other k.queues.lists l m xs [] n)) (sound.fit m)
+    at : (m : ℕ) → (m ≡ l) ⊎ (m ≢ l) → All (IsFitActivation loan k.requests) (get_or (set k.queues.lists l xs) m [])
+    at m (inl f) = subst (All (IsFitActivation loan k.requests)) (sym (ap (λ m. get_or (set k.queues.lists l xs) m []) f ∙ get_or-set_same k.queues.lists l xs [] h)) fit
+    at m (inr n) = subst (All (IsFitActivation loan k.requests)) (sym (get_or-set_other k.queues.lists l m xs [] n)) (sound.fit m)
 
 pub sound_same_list : {F : Type 0} (limits : F → List Limits) (loan : Loan) (k : Kept F) (queues : Lists Activation) → IsSound limits loan k → queues ≡ k.queues → IsSound limits loan (record k { queues = queues })
 sound_same_list limits loan k queues sound e = subst (λ (q : Lists Activation). IsSound limits loan (record k { queues = q })) (sym e) sound

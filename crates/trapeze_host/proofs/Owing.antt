@@ -29,7 +29,7 @@ use Rattle.trapeze_host.specs.declared.runs.Reached.TheVariants as reached
 use Rattle.trapeze_host.specs.Adding.{AddsPart}
 use Rattle.trapeze_host.specs.Loans.{Loan, rules_in, guest_in, module_in}
 use Rattle.trapeze_host.specs.Keeping.{Keeps}
-use Rattle.trapeze_host.specs.Turning.{run_of, run_calls, run_stint, end_of, ends_so, Owes, Reaches}
+use Rattle.trapeze_host.specs.Turning.{run_of, run_calls, run_stint, end_of, ends_so, Owes, LeadsOn}
 use Rattle.trapeze_host.proofs.Keeping.{no_part}
 use Rattle.trapeze_host.proofs.Stints.{owes_then, owes_part, owes_end}
 use Rattle.trapeze_host.proofs.Going.{here_spent, here_done, here_trapped, here_asks}
@@ -52,7 +52,7 @@ module _ {F : Type 0} (rows : F → Rows) (law : GoesByRuns) (loan : Loan) (r : 
   stops_trapped trap e cause is = subst (λ (cause : Cause). Owes rows loan (run_stint loan r before given first s) k lines between (ends_so (Trapped cause))) (sym is)
       (stopped (Trapped (cause_of trap)) (here_trapped law loan r before left used limits program sandbox how own limit ends o.done.state trap e))
 
-  -- memory was refused to the engine
+  -- the engine is out of memory
   pub stops_short : AddsPart (run_stint loan r before given first s).moved.lines lines between
   stops_short = subst (λ (n : ℕ). AddsPart (run_stint loan r before n first s).moved.lines lines between) whole_is
       (owes_part rows loan (run_stint loan r before whole first s) (run_stint loan r before left sandbox o.done.state) k lines between between (run_stint loan r before left sandbox) o refl
@@ -71,10 +71,10 @@ module _ {F : Type 0} (rows : F → Rows) (law : GoesByRuns) (loan : Loan) (r : 
     -- what the call came to
     abbrev pub Came : Kept F → List Line → Result Reached NoMemory → Type 0
     Came j after result = (before : Option Thread) (rest : Thread → State Thread → Stint Thread) (s : State Thread) → Keeps rows loan k s
-        → Reaches rows loan (module_in loan r.function) rest (run_calls loan r before suspended rest s) j between after result
+        → LeadsOn rows loan (module_in loan r.function) rest (run_calls loan r before suspended rest s) j between after result
 
-    came : (j : Kept F) (after : List Line) (x y : Reached) → x ≡ y → Came j after (Ok x) → Reaches rows loan (module_in loan r.function) rest calls j between after (Ok y)
-    came j after x y e h = subst (λ (y : Reached). Reaches rows loan (module_in loan r.function) rest calls j between after (Ok y)) e (h before rest o.done.state o.keeps)
+    came : (j : Kept F) (after : List Line) (x y : Reached) → x ≡ y → Came j after (Ok x) → LeadsOn rows loan (module_in loan r.function) rest calls j between after (Ok y)
+    came j after x y e h = subst (λ (y : Reached). LeadsOn rows loan (module_in loan r.function) rest calls j between after (Ok y)) e (h before rest o.done.state o.keeps)
 
     pub asks_goes : (j : Kept F) (after : List Line) (x : Reached) (next : Sandbox) → x ≡ reached.Goes next → Came j after (Ok x)
         → Owes rows loan (run_stint loan r before whole first s) j lines after (run_stint loan r before (left - used) next)
@@ -87,7 +87,7 @@ module _ {F : Type 0} (rows : F → Rows) (law : GoesByRuns) (loan : Loan) (r : 
         (owes_then rows loan (run_stint loan r before whole first s) calls k j lines between after (run_stint loan r before left sandbox) (ends_so (end_of (module_in loan r.function) end)) o asked
         (came j after x (reached.Ends end) e h))
 
-    -- memory was refused in the call
+    -- out of memory in the call
     pub asks_short : (after : List Line) → ((before : Option Thread) (rest : Thread → State Thread → Stint Thread) (s : State Thread) → Keeps rows loan k s → AddsPart (run_calls loan r before suspended rest s).moved.lines between after)
         → AddsPart (run_stint loan r before given first s).moved.lines lines after
     asks_short after h = subst (λ (n : ℕ). AddsPart (run_stint loan r before n first s).moved.lines lines after) whole_is

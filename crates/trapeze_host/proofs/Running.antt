@@ -30,7 +30,7 @@ use Rattle.trapeze_host.specs.declared.kept.Serving.{Serving}
 use Rattle.trapeze_host.specs.declared.requests.Requests.{Requests}
 use Rattle.trapeze_host.specs.declared.kept.Kept.{Kept}
 use Rattle.trapeze_host.specs.Loans.{Loan, rules_in, guest_in, module_in}
-use Rattle.trapeze_host.specs.Keeping.{activation_of, state_of, Keeps, Makes, IsFit, IsSound}
+use Rattle.trapeze_host.specs.Keeping.{activation_of, state_of, Keeps, Makes, IsFitActivation, IsSound}
 use Rattle.trapeze_host.specs.Turning.{Owes, ends_so, GoesOn, IsRun}
 use Rattle.trapeze_host.proofs.Tables.{set_table}
 use Rattle.trapeze_host.proofs.Keeping.{for_state, then_makes, keeps_list, list_here}
@@ -87,7 +87,7 @@ all_set {A} P (y ∷ xs) x h p = at
     at (suc i) d b = h (suc i) d (omega (arith, b))
 
 -- a husk of one of the functions is fit
-pub fit_husk : (loan : Loan) (requests : Requests) (front husk : Activation) → IsFit loan requests front → husk.function ≡ 0 → husk.input ≡ [] → husk.serves ≡ None → husk.sandbox ≡ None → IsFit loan requests husk
+pub fit_husk : (loan : Loan) (requests : Requests) (front husk : Activation) → IsFitActivation loan requests front → husk.function ≡ 0 → husk.input ≡ [] → husk.serves ≡ None → husk.sandbox ≡ None → IsFitActivation loan requests husk
 fit_husk loan requests front husk fit f i s b = record {
   function = omega (arith, f, fit.function);
   input = omega (arith, ap length i);
@@ -140,8 +140,8 @@ pub sound_husk : {F : Type 0} (limits : F → List Limits) (loan : Loan) (k : Ke
     → slice_get (list_of k.queues l) 0 ≡ Some front → input ≡ [] → queues ≡ with_list k.queues l (set (list_of k.queues l) 0 (record { function = 0; input = input; serves = None; sandbox = None; used = 0 }))
     → IsSound limits loan (record k { queues = queues })
 sound_husk limits loan k queues l front input sound h first e after = sound_list limits loan k queues l (set (list_of k.queues l) 0 husk) sound (omega (arith, h, sound.lists)) after
-    (all_set (IsFit loan k.requests) (list_of k.queues l) husk (sound.fit l)
-    (fit_husk loan k.requests front husk (all_front (IsFit loan k.requests) (list_of k.queues l) front first (sound.fit l)) refl e refl refl))
+    (all_set (IsFitActivation loan k.requests) (list_of k.queues l) husk (sound.fit l)
+    (fit_husk loan k.requests front husk (all_front (IsFitActivation loan k.requests) (list_of k.queues l) front first (sound.fit l)) refl e refl refl))
   where
     husk : Activation
     husk = record { function = 0; input = input; serves = None; sandbox = None; used = 0 }
@@ -151,7 +151,7 @@ pub front_run : {F : Type 0} (limits : F → List Limits) (loan : Loan) (k : Kep
     → slice_get (list_of k.queues at.number) 0 ≡ Some front
     → IsRun loan k.requests (record { at = at; number = number; function = front.function; input = front.input; serves = front.serves; used = front.used })
 front_run limits loan k at number front sound h first =
-    let fit : IsFit loan k.requests front = all_front (IsFit loan k.requests) (list_of k.queues at.number) front first (sound.fit at.number) in
+    let fit : IsFitActivation loan k.requests front = all_front (IsFitActivation loan k.requests) (list_of k.queues at.number) front first (sound.fit at.number) in
     record { at = h; function = fit.function; input = fit.input; serves = fit.serves }
 
 -- a turn number is taken

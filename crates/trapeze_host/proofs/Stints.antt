@@ -40,7 +40,7 @@ module _ {F : Type 0} (rows : F → Rows) (loan : Loan) where
     makes = o.makes ∙ (ap (then_stint o.done) (e ∙ p.makes) ∙ stint_after o.done p.done (h p.done.state));
   }
 
-  -- memory was refused in the rest
+  -- out of memory in the rest
   pub owes_part : (whole x : Stint Thread) (k : Kept F) (before between after : List Line) (f : State Thread → Stint Thread) (o : Owes rows loan whole k before between f)
       → f o.done.state ≡ x → AddsPart x.moved.lines between after → AddsPart whole.moved.lines before after
   owes_part whole x k before between after f o e p = subst (λ (r : Stint Thread). AddsPart r.moved.lines before after) (sym (o.makes ∙ ap (then_stint o.done) e))

@@ -90,7 +90,7 @@ pub record IsServed (loan : Loan) (requests : Requests) (x : Serving) : Type 0 w
   pub request : IsTaken (taken_of requests) (request_of x.request)
 
 -- an activation of one of the functions, whose sandbox can go on
-pub record IsFit (loan : Loan) (requests : Requests) (a : Activation) : Type 0 where
+pub record IsFitActivation (loan : Loan) (requests : Requests) (a : Activation) : Type 0 where
   pub function : a.function < length loan.policy.functions
   pub input : length a.input ≤ longest_value
   pub serves : ForSome a.serves (IsServed loan requests)
@@ -105,7 +105,7 @@ pub record IsSound {F : Type 0} (limits : F → List Limits) (loan : Loan) (k : 
   pub turns : length k.turns.items ≡ count loan.policy.lattice
   pub requests : labels_of k.requests ≡ count loan.policy.lattice
   pub room : HasRoom k.requests
-  pub fit : (l : ℕ) → All (IsFit loan k.requests) (list_of k.queues l)
+  pub fit : (l : ℕ) → All (IsFitActivation loan k.requests) (list_of k.queues l)
 
 -- turn and request numbers are the same
 pub record HasSameNumbers {F : Type 0} (before after : Kept F) : Type 0 where
@@ -132,13 +132,13 @@ abbrev pub KeepsMembers : {F : Type 0} → Kept F → Kept F → Type 0
 KeepsMembers before after = (l : ℕ) → length (list_of before.queues l) ≤ length (list_of after.queues l)
 
 -- what a host is, as contracts see it
-pub record Held (F : Type 0) : Type 0 where
+pub record HostParts (F : Type 0) : Type 0 where
   pub lent : Loan
   pub kept : Kept F
   pub spent : Bool
   pub played : ℕ
 
 -- what holds of every host: what is kept is for what was lent, and no number is above the count of events
-pub record IsHeld {F : Type 0} (limits : F → List Limits) (h : Held F) : Type 0 where
+pub record IsHeld {F : Type 0} (limits : F → List Limits) (h : HostParts F) : Type 0 where
   pub sound : IsSound limits h.lent h.kept
   pub counted : h.spent ≡ false → AreCounted h.played h.kept

@@ -13,11 +13,11 @@ pub use Rattle.trapeze_host.specs.Adding.{AddsPart, Adds}
 pub use Rattle.trapeze_host.specs.Loans.{known_in}
 
 -- what a host was lent
-unfoldable pub policy_in : {F : Type 0} → Host F → Parts
-policy_in host = host.lent.policy
+unfoldable pub policy_lent : {F : Type 0} → Host F → Parts
+policy_lent host = host.lent.policy
 
-unfoldable pub modules_in : {F : Type 0} → Host F → List Module
-modules_in host = host.lent.modules
+unfoldable pub modules_lent : {F : Type 0} → Host F → List Module
+modules_lent host = host.lent.modules
 
 -- a call of play was out of memory
 unfoldable pub is_spent : {F : Type 0} → Host F → Bool

@@ -136,14 +136,14 @@ ends_so end s = turns.stops s end
 
 -- after a host call: the rest is owed with the thread that goes on, or nothing but the end; or, out of memory, the first lines
 -- were appended
-abbrev pub Reaches :
+abbrev pub LeadsOn :
     {F : Type 0} → (F → Rows) → Loan → Module → (Thread → rules.State Thread → turns.Stint Thread)
     → turns.Stint Thread → Kept F → List Line → List Line → Result Reached NoMemory → Type 0
-Reaches rows loan m rest whole k before after (Ok (reached.Goes sandbox)) =
+LeadsOn rows loan m rest whole k before after (Ok (reached.Goes sandbox)) =
     Owes rows loan whole k before after (rest (thread_of m sandbox))
-Reaches rows loan m rest whole k before after (Ok (reached.Ends end)) =
+LeadsOn rows loan m rest whole k before after (Ok (reached.Ends end)) =
     Owes rows loan whole k before after (ends_so (end_of m end))
-Reaches rows loan m rest whole k before after (Err e) = AddsPart whole.moved.lines before after
+LeadsOn rows loan m rest whole k before after (Err e) = AddsPart whole.moved.lines before after
 
 -- after a whole stint
 abbrev pub Finishes :

@@ -2,7 +2,7 @@
 
 ghost use Rattle.std.specs.Prelude.{◌≡◌};
 ghost use Rattle.host_rules.specs.Modules.{cause_of};
-ghost use Rattle.shim_calls.specs.Performing.{cause_of as cause_of_call};
+ghost use Rattle.shim_calls.specs.Performing.{cause_of_call as cause_of_call};
 
 use sandbox::Trap;
 use shim_calls::ShimTrap;

@@ -46,7 +46,7 @@ pub(crate) fn replace_front(
     }
 }
 
-/// The sandbox that an activation goes on with: its own or, in its first turn, a fresh one.
+/// The sandbox that an activation goes on with: its own or, in its first turn, that of the starting thread.
 fn begin(
     alloc: Global,
     lent: &Lent,
@@ -71,7 +71,7 @@ fn begin(
 }
 
 impl<F: Facets> Kept<F> {
-    /// The stint of a turn, and the end of the turn.
+    /// The stint of a turn, over the units of a turn, and the end of the turn.
     fn run(
         &mut self,
         lent: &Lent,

@@ -28,9 +28,9 @@ pub struct Host<'a, F: Facets> {
 impl<'a, F: Facets> Model for Host<'a, F> {
     ghost use Rattle.std.specs.Coded.{codes};
     ghost use Rattle.wasm_ast.specs.contracts.modules.Module as programs;
-    ghost use Rattle.trapeze_host.specs.Keeping.{Held, IsHeld};
+    ghost use Rattle.trapeze_host.specs.Keeping.{HostParts, IsHeld};
 
-    ghost Value = { Held F };
+    ghost Value = { HostParts F };
 
     ghost coded = { Prim.hlevel (codes, programs.the_row.coded) };
 
@@ -51,7 +51,7 @@ impl<'a, F: Facets> Host<'a, F> {
     ghost use Rattle.host_rules.specs.Stores.{facet_lines};
     ghost use Rattle.host_rules.specs.States.{State, Happens, start};
     ghost use Rattle.host_rules.specs.Play.{step};
-    ghost use Rattle.trapeze_host.specs.Standing.{policy_in, modules_in, is_spent, played_in, known_in};
+    ghost use Rattle.trapeze_host.specs.Standing.{policy_lent, modules_lent, is_spent, played_in, known_in};
     ghost use Rattle.trapeze_host.specs.Standing.{Stands, Moves, Adds};
     ghost use Rattle.trapeze_host.specs.Observing.{Hides, Mirrors};
 
@@ -67,7 +67,7 @@ impl<'a, F: Facets> Host<'a, F> {
         ensures starts { IfOk result
             (λ host. (w : List Write) → F.rows facets ≡ rows_of w → Stands F.rows host (start w)) }
         ensures lent { IfOk result
-            (λ host. (policy_in host ≡ policy.now) × (modules_in host ≡ modules.now)) }
+            (λ host. (policy_lent host ≡ policy.now) × (modules_lent host ≡ modules.now)) }
         ensures fresh { IfOk result (λ host. (is_spent host ≡ false) × (played_in host ≡ 0)) }
     {
         let lent = Lent::new(policy, modules);
@@ -104,20 +104,20 @@ impl<'a, F: Facets> Host<'a, F> {
     pub fn play(&mut self, event: &Event, lines: &mut Lines) -> Result<(), NoMemory>
         requires unspent { is_spent self.old ≡ false }
         requires few { played_in self.old < 2 ^ 62 }
-        requires event { IsFit (known_in (policy_in self.old)) event.now }
+        requires event { IsFit (known_in (policy_lent self.old)) event.now }
         ensures moved { (s : State Thread) → Stands F.rows self.old s → Moves F.rows result
-            (step (rules_of (policy_in self.old)) (guest_of (modules_in self.old)) s (Happens event.now))
+            (step (rules_of (policy_lent self.old)) (guest_of (modules_lent self.old)) s (Happens event.now))
             self.new lines.old lines.new }
-        ensures labelled { All (IsLabelled (count (policy_in self.old).lattice)) lines.old →
-            All (IsLabelled (count (policy_in self.old).lattice)) lines.new }
+        ensures labelled { All (IsLabelled (count (policy_lent self.old).lattice)) lines.old →
+            All (IsLabelled (count (policy_lent self.old).lattice)) lines.new }
         ensures spent { is_spent self.new ≡ is_err result }
         ensures counted { OnOk result (played_in self.new ≡ played_in self.old + 1) }
-        ensures lent { (policy_in self.new ≡ policy_in self.old) × (modules_in self.new ≡ modules_in self.old) }
+        ensures lent { (policy_lent self.new ≡ policy_lent self.old) × (modules_lent self.new ≡ modules_lent self.old) }
         ensures hidden { OnOk result ((o : ℕ) (s : State Thread) → Stands F.rows self.old s →
-            Hides (rules_of (policy_in self.old)) (guest_of (modules_in self.old)) o s event.now
+            Hides (rules_of (policy_lent self.old)) (guest_of (modules_lent self.old)) o s event.now
             lines.old lines.new) }
         ensures seen { OnOk result ((o : ℕ) (s : State Thread) → Stands F.rows self.old s →
-            Mirrors (rules_of (policy_in self.old)) (guest_of (modules_in self.old)) o s event.now
+            Mirrors (rules_of (policy_lent self.old)) (guest_of (modules_lent self.old)) o s event.now
             lines.old lines.new) }
         ensures uncounted { OnErr result (played_in self.new ≡ played_in self.old) }
     {
@@ -146,8 +146,8 @@ impl<'a, F: Facets> Host<'a, F> {
         requires unspent { is_spent self.now ≡ false }
         ensures added { (s : State Thread) → Stands F.rows self.now s →
             Adds result (facet_lines s.store) lines.old lines.new }
-        ensures labelled { All (IsLabelled (count (policy_in self.now).lattice)) lines.old →
-            All (IsLabelled (count (policy_in self.now).lattice)) lines.new }
+        ensures labelled { All (IsLabelled (count (policy_lent self.now).lattice)) lines.old →
+            All (IsLabelled (count (policy_lent self.now).lattice)) lines.new }
     {
         add_facets(self.kept.alloc, &self.kept.facets, lines)
     }

@@ -6,7 +6,7 @@ ghost use Rattle.host_rules.specs.Effects.{arrive as arrived};
 ghost use Rattle.trapeze_host.specs.Adding.{KeepsLabelled};
 ghost use Rattle.trapeze_host.specs.Loans.{rules_in};
 ghost use Rattle.trapeze_host.specs.Keeping.{serving_of, activation_of, MakesFrom};
-ghost use Rattle.trapeze_host.specs.Keeping.{IsFit, IsSound, HasSameNumbers, KeepsMembers};
+ghost use Rattle.trapeze_host.specs.Keeping.{IsFitActivation, IsSound, HasSameNumbers, KeepsMembers};
 
 use crate::lent::Lent;
 use crate::requests::{Request, Requests};
@@ -58,7 +58,7 @@ pub(crate) fn id_of(serves: Option<Serving>) -> Option<Name>
 }
 
 impl<F: Facets> Kept<F> {
-    /// A new activation arrives at a label from another.
+    /// Arrival: a new activation arrives at a label from another.
     pub(crate) fn arrive(
         &mut self,
         lent: &Lent,
@@ -70,7 +70,7 @@ impl<F: Facets> Kept<F> {
         requires sound { IsSound F.limits lent.now self.old }
         requires at { at.number < count lent.now.policy.lattice }
         requires from { from.number < count lent.now.policy.lattice }
-        requires fit { IsFit lent.now self.old.requests activation }
+        requires fit { IsFitActivation lent.now self.old.requests activation }
         requires unused { activation.used ≡ 0 }
         ensures moved { MakesFrom F.rows lent.now result self.old self.new lines.old lines.new
             (arrived (rules_in lent.now) at.number from.number (activation_of lent.now activation)) }

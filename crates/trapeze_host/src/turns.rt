@@ -9,7 +9,7 @@ ghost use Rattle.host_rules.specs.Turns.{Stint};
 ghost use Rattle.trapeze_host.specs.Adding.{KeepsLabelled};
 ghost use Rattle.trapeze_host.specs.Loans.{module_in};
 ghost use Rattle.trapeze_host.specs.Keeping.{Keeps, IsSound, HasSameNumbers, KeepsMembers};
-ghost use Rattle.trapeze_host.specs.Turning.{run_calls, run_stint, IsRun, Reaches, Finishes};
+ghost use Rattle.trapeze_host.specs.Turning.{run_calls, run_stint, IsRun, LeadsOn, Finishes};
 ghost use Rattle.trapeze_host.specs.Turning.{IsFitEnd, IsFitReached};
 
 use crate::causes::{cause_of_call, cause_of_unit};
@@ -37,7 +37,7 @@ impl<F: Facets> Kept<F> {
         requires run { IsRun lent.now self.old.requests run.now }
         requires waits { IsWaiting (module_in lent.now run.now.function) suspended }
         ensures reached { (before : Option Thread) (rest : Thread → State Thread → Stint Thread) (s : State Thread) →
-            Keeps F.rows lent.now self.old s → Reaches F.rows lent.now (module_in lent.now run.now.function) rest
+            Keeps F.rows lent.now self.old s → LeadsOn F.rows lent.now (module_in lent.now run.now.function) rest
             (run_calls lent.now run.now before suspended rest s) self.new lines.old lines.new result }
         ensures fit { IfOk result
             (IsFitReached (module_in lent.now run.now.function) (count lent.now.policy.lattice)) }

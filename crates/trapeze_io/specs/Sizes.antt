@@ -1,6 +1,9 @@
--- How long keys, values, messages and bodies may be.
-use Rattle.std.specs.Prelude.{ℕ, ◌≤◌, List, length, IfSome}
-use Rattle.std.specs.declared.option.Option.{Option}
+-- How long names, keys, values, messages and bodies may be.
+use Rattle.std.specs.Prelude.{ℕ, ◌≤◌, List, length, Option, Some, None}
+
+-- the most bytes of a name
+abbrev pub longest_name : ℕ
+longest_name = 64
 
 -- the most bytes of a key
 abbrev pub longest_key : ℕ
@@ -14,6 +17,11 @@ longest_value = 65536
 abbrev pub IsKey : List ℕ → Type 0
 IsKey key = length key ≤ longest_key
 
--- a value is absent, or no longer than a value may be
+-- the length of a value, 0 where it is absent
+abbrev pub value_length : Option (List ℕ) → ℕ
+value_length None = 0
+value_length (Some value) = length value
+
+-- a value is no longer than a value may be
 abbrev pub IsValue : Option (List ℕ) → Type 0
-IsValue value = IfSome value (λ bytes. length bytes ≤ longest_value)
+IsValue value = value_length value ≤ longest_value

@@ -24,7 +24,7 @@ pub use memory_files::MemFiles;
 pub use memory_sink::MemSink;
 pub use names::Name;
 pub use real::{RealFiles, RealSink};
-pub use sizes::{LONGEST_KEY, LONGEST_VALUE};
+pub use sizes::{LONGEST_KEY, LONGEST_NAME, LONGEST_VALUE};
 pub use streams::{Files, Sink};
 pub use whole::{ReadError, WriteError, read_whole, write_whole};
 pub use words::Words;

@@ -64,14 +64,14 @@ impl MemSink {
 
 impl Sink for MemSink {
     ghost use Rattle.trapeze_io.specs.Causes.{HasCause, one_more};
-    ghost use Rattle.trapeze_io.specs.Sinks.{Writes, WritesSome};
+    ghost use Rattle.trapeze_io.specs.Sinks.{AppendsFirst, WritesSome};
 
     ghost written = { λ s. Some s.written };
 
     ghost faults = { λ s. s.faults };
 
     fn write(&mut self, piece: &[u8]) -> Result<usize, Failed>
-        ensures bytes { Writes (Some self.old.written) (Some self.new.written) result piece.now }
+        ensures bytes { AppendsFirst (Some self.old.written) (Some self.new.written) result piece.now }
         ensures some { WritesSome result piece.now }
         ensures cause { HasCause self.old.faults self.new.faults result }
         ensures plan { self.new.plan ≡ after_call self.old.plan }

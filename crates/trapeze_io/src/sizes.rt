@@ -1,4 +1,7 @@
-//! How long keys, values, messages and bodies may be.
+//! How long names, keys, values, messages and bodies may be.
+
+/// The most bytes of a name.
+pub const LONGEST_NAME: usize = 64;
 
 /// The most bytes of a key.
 pub const LONGEST_KEY: usize = 1024;

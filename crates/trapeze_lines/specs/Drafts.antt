@@ -12,6 +12,6 @@ abbrev pub spaced : List (List ℕ) → List ℕ
 spaced words = flat_map (λ word. 32 ∷ word) words
 
 -- more was written, or else some of it; the bytes before stay
-pub record Writes {E : Type 0} (old new : Drafted) (more : List ℕ) (result : Result Unit E) : Type 0 where
+pub record AddsMore {E : Type 0} (old new : Drafted) (more : List ℕ) (result : Result Unit E) : Type 0 where
   pub before : new.before ≡ old.before
   pub ok : OnOk result (new.written ≡ old.written ++ more)

@@ -3,7 +3,7 @@
 ghost use Rattle.std.specs.Prelude.{◌≡◌, ◌++◌, ◌∷◌, ◌*◌, ◌<◌, [], length, decimal};
 ghost use Rattle.hex.specs.Hex.{encode_lower};
 ghost use Rattle.label_lattice.specs.Order.{count};
-ghost use Rattle.trapeze_lines.specs.Drafts.{Writes};
+ghost use Rattle.trapeze_lines.specs.Drafts.{AddsMore};
 ghost use Rattle.trapeze_lines.specs.Texts.{bytes_text, label_text};
 
 use itoa::Buffer;
@@ -57,7 +57,7 @@ impl Draft {
 
     /// Writes bytes.
     pub(crate) fn add(&mut self, more: &[u8]) -> Result<(), NoMemory>
-        ensures { Writes self.old self.new more.now result }
+        ensures { AddsMore self.old self.new more.now result }
     {
         match self.bytes.extend_from_slice(more) {
             Ok(()) => Ok(()),
@@ -67,7 +67,7 @@ impl Draft {
 
     /// Writes a space and a word.
     pub(crate) fn word(&mut self, word: &[u8]) -> Result<(), NoMemory>
-        ensures { Writes self.old self.new (32 ∷ word.now) result }
+        ensures { AddsMore self.old self.new (32 ∷ word.now) result }
     {
         self.add(b" ")?;
         self.add(word)
@@ -75,7 +75,7 @@ impl Draft {
 
     /// Writes a space and a number.
     pub(crate) fn number(&mut self, number: u64) -> Result<(), NoMemory>
-        ensures { Writes self.old self.new (32 ∷ decimal number) result }
+        ensures { AddsMore self.old self.new (32 ∷ decimal number) result }
     {
         let mut digits = Buffer::new();
         self.word(digits.format(number).as_bytes())
@@ -84,14 +84,14 @@ impl Draft {
     /// Writes a space and the name of a label.
     pub(crate) fn label(&mut self, lattice: &Lattice, label: Label) -> Result<(), NoMemory>
         requires { label.number < count lattice.now }
-        ensures { Writes self.old self.new (32 ∷ label_text lattice.now.names label) result }
+        ensures { AddsMore self.old self.new (32 ∷ label_text lattice.now.names label) result }
     {
         self.word(lattice.name(label).as_bytes())
     }
 
     /// Writes a space and bytes as a word.
     pub(crate) fn bytes(&mut self, bytes: &[u8]) -> Result<(), NoMemory>
-        ensures { Writes self.old self.new (32 ∷ bytes_text bytes.now) result }
+        ensures { AddsMore self.old self.new (32 ∷ bytes_text bytes.now) result }
     {
         self.add(b" x")?;
         self.digits(bytes)
@@ -99,7 +99,7 @@ impl Draft {
 
     /// Writes two digits for each byte.
     fn digits(&mut self, bytes: &[u8]) -> Result<(), NoMemory>
-        ensures { Writes self.old self.new (encode_lower bytes.now) result }
+        ensures { AddsMore self.old self.new (encode_lower bytes.now) result }
     {
         let at = self.bytes.len();
         let Some(end) = at.checked_add(2 * bytes.len()) else {

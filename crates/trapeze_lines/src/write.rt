@@ -3,7 +3,7 @@
 ghost use Rattle.std.specs.Prelude.{◌≡◌, ◌++◌, ◌∷◌, [], OnOk, OnErr};
 ghost use Rattle.std.specs.Option.{option_copied};
 ghost use Rattle.label_lattice.specs.Order.{count};
-ghost use Rattle.trapeze_lines.specs.Drafts.{Writes, spaced};
+ghost use Rattle.trapeze_lines.specs.Drafts.{AddsMore, spaced};
 ghost use Rattle.trapeze_lines.specs.Lines.{IsFrom, IsLabelled};
 ghost use Rattle.trapeze_lines.specs.Texts.{bytes_text, cause_text, id_text, kind_word, line_text, other_words, outcome_text, outcome_words, value_text};
 
@@ -39,7 +39,7 @@ pub fn write_text(
 
 fn write_line(draft: &mut Draft, lattice: &Lattice, line: &Line) -> Result<(), NoMemory>
     requires { IsLabelled (count lattice.now) line.now }
-    ensures { Writes draft.old draft.new (line_text lattice.now.names line.now) result }
+    ensures { AddsMore draft.old draft.new (line_text lattice.now.names line.now) result }
 {
     draft.add(kind_word(&line.kind))?;
     draft.label(lattice, line.label)?;
@@ -69,7 +69,7 @@ fn kind_word(kind: &Kind) -> &'static [u8]
 /// Writes the words after the name of the line's label, each after a space.
 fn write_others(draft: &mut Draft, lattice: &Lattice, kind: &Kind) -> Result<(), NoMemory>
     requires { IsFrom (count lattice.now) kind.now }
-    ensures { Writes draft.old draft.new (spaced (other_words lattice.now.names kind.now)) result }
+    ensures { AddsMore draft.old draft.new (spaced (other_words lattice.now.names kind.now)) result }
 {
     match kind {
         Kind::Reply { client, id, bytes } | Kind::Answer { client, id, bytes } => {
@@ -107,7 +107,7 @@ fn write_others(draft: &mut Draft, lattice: &Lattice, kind: &Kind) -> Result<(),
 
 /// Writes the function of an activation and the id of its request.
 fn write_activation(draft: &mut Draft, function: &Name, id: &Option<Name>) -> Result<(), NoMemory>
-    ensures { Writes draft.old draft.new (spaced (function.now ∷ id_text id.now ∷ [])) result }
+    ensures { AddsMore draft.old draft.new (spaced (function.now ∷ id_text id.now ∷ [])) result }
 {
     draft.word(function.as_bytes())?;
     match id {
@@ -118,7 +118,7 @@ fn write_activation(draft: &mut Draft, function: &Name, id: &Option<Name>) -> Re
 
 /// Writes a value, or a dash where it is absent.
 fn write_value(draft: &mut Draft, value: &Option<Bytes>) -> Result<(), NoMemory>
-    ensures { Writes draft.old draft.new (32 ∷ value_text value.now) result }
+    ensures { AddsMore draft.old draft.new (32 ∷ value_text value.now) result }
 {
     match value {
         Some(bytes) => draft.bytes(bytes.as_slice()),
@@ -128,7 +128,7 @@ fn write_value(draft: &mut Draft, value: &Option<Bytes>) -> Result<(), NoMemory>
 
 /// Writes how a turn ended.
 fn write_outcome(draft: &mut Draft, outcome: Outcome) -> Result<(), NoMemory>
-    ensures { Writes draft.old draft.new (spaced (outcome_words outcome)) result }
+    ensures { AddsMore draft.old draft.new (spaced (outcome_words outcome)) result }
 {
     draft.word(outcome_text(outcome))?;
     match outcome {

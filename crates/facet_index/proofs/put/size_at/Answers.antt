@@ -3,7 +3,8 @@ use Rattle.std.specs.Prelude.{option_map}
 use Rattle.std.specs.Option.{option_copied}
 use Rattle.std.specs.Map.{lookup}
 use Rattle.std.specs.Borrow.{Bor}
-use Rattle.facet_list.specs.Rows.{Member, member, row_of, IsSized, IsValue}
+use Rattle.trapeze_io.specs.Sizes.{IsValue}
+use Rattle.facet_list.specs.Rows.{Member, member, row_of, IsSized}
 use Rattle.facet_list.specs.Room.{size}
 use Rattle.facet_list.proofs.Sizes.{All-member}
 use Rattle.facet_index.specs.Rows.{rows_in}

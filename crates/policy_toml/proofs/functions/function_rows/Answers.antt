@@ -1,6 +1,6 @@
 use Rattle.std.proofs.Common.{◌≡◌, ◌+◌, [], ◌∷◌, ◌++◌, Ok, length, string_bytes, ap, rules}
 use Rattle.toml.specs.View.{view, members_view}
-use Rattle.policy_toml.specs.Rows.{rows_of}
+use Rattle.policy_toml.specs.Rows.{members_of}
 use Rattle.policy_toml.specs.Stages.{function_row, IsFunction}
 use Rattle.policy_toml.proofs.Rows.{SoFar-begin, SoFar-next, Named-begin, Named-next, SoFar-count}
 use Rattle.policy_toml.proofs.functions.function_rows.Goals as goal
@@ -10,7 +10,7 @@ rows-init c =
     let given = c.into_iter-key-iterator.ensures.into_iter_gives in (
       tt,
       tt,
-      SoFar-begin function_row (rows_of (members_view c.args.table.now.entries)) (rows_of (members_view c.into_iter-key-iterator.result)) c.new-functions.result.items (ap (λ es. rows_of (members_view es)) given.0) c.new-functions.ensures.items,
+      SoFar-begin function_row (members_of (members_view c.args.table.now.entries)) (members_of (members_view c.into_iter-key-iterator.result)) c.new-functions.result.items (ap (λ es. members_of (members_view es)) given.0) c.new-functions.ensures.items,
       Named-begin (λ f. f.0) IsFunction c.args.table.now.entries c.into_iter-key-iterator.result c.new-functions.result.items given.0 c.new-functions.ensures.items given.5,
     )
 
@@ -22,9 +22,9 @@ rows-preserved c =
     let pushed : c.push.new.self.items ≡ c.rows.functions.items ++ c.in_ok-row.row ∷ [] = search rules in (
       tt,
       tt,
-      SoFar-next function_row (rows_of (members_view c.args.table.now.entries)) c.rows.key-iterator c.next.new.self c.in-Some.key.now c.in-Some.value.now c.rows.functions.items c.push.new.self.items c.in_ok-row.row c.rows.invariant.2 step is pushed,
+      SoFar-next function_row (members_of (members_view c.args.table.now.entries)) c.rows.key-iterator c.next.new.self c.in-Some.key.now c.in-Some.value.now c.rows.functions.items c.push.new.self.items c.in_ok-row.row c.rows.invariant.2 step is pushed,
       Named-next (λ f. f.0) IsFunction c.rows.key-iterator c.next.new.self c.args.table.now.entries c.in-Some.key.now c.in-Some.value.now c.rows.functions.items c.push.new.self.items c.in_ok-row.row c.rows.invariant.3 step name c.in_ok-row.ensures.file pushed,
     )
 
 pub returns-clause-count : goal.returns-clause-count
-returns-clause-count c = SoFar-count function_row (rows_of (members_view c.args.table.now.entries)) c.rows.key-iterator c.rows.functions.items c.rows.invariant.2 c.in-None.ensures.steps.0
+returns-clause-count c = SoFar-count function_row (members_of (members_view c.args.table.now.entries)) c.rows.key-iterator c.rows.functions.items c.rows.invariant.2 c.in-None.ensures.steps.0

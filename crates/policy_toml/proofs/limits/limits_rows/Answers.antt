@@ -3,7 +3,7 @@ use Rattle.std.specs.Prelude.{All}
 use Rattle.toml.specs.View.{view, members_view}
 use Rattle.label_lattice.specs.Order.{count}
 use Rattle.label_limits.specs.declared.limits.Limits.{Limits}
-use Rattle.policy_toml.specs.Rows.{rows_of}
+use Rattle.policy_toml.specs.Rows.{members_of}
 use Rattle.policy_toml.specs.Stages.{limits_row, IsRowOf}
 use Rattle.policy_toml.proofs.Rows.{SoFar-begin, SoFar-next, all_none, all_more}
 use Rattle.policy_toml.proofs.limits.limits_rows.Goals as goal
@@ -13,7 +13,7 @@ rows-init c =
     let given = c.into_iter-key-iterator.ensures.into_iter_gives in (
       tt,
       tt,
-      SoFar-begin (limits_row c.args.lattice.now.names) (rows_of (members_view c.args.table.now.entries)) (rows_of (members_view c.into_iter-key-iterator.result)) c.new-limits.result.items (ap (λ es. rows_of (members_view es)) given.0) c.new-limits.ensures.items,
+      SoFar-begin (limits_row c.args.lattice.now.names) (members_of (members_view c.args.table.now.entries)) (members_of (members_view c.into_iter-key-iterator.result)) c.new-limits.result.items (ap (λ es. members_of (members_view es)) given.0) c.new-limits.ensures.items,
       subst (λ (x : List (ℕ × Limits)). All (IsRowOf (count c.args.lattice.now)) x) (sym c.new-limits.ensures.items) (all_none (IsRowOf (count c.args.lattice.now))),
     )
 
@@ -28,6 +28,6 @@ rows-preserved c =
     let pushed : c.push.new.self.items ≡ c.rows.limits.items ++ c.in_ok-row.row ∷ [] = search rules in (
       tt,
       tt,
-      SoFar-next (limits_row c.args.lattice.now.names) (rows_of (members_view c.args.table.now.entries)) c.rows.key-iterator c.next.new.self c.in-Some.key.now c.in-Some.value.now c.rows.limits.items c.push.new.self.items c.in_ok-row.row c.rows.invariant.2 step is pushed,
+      SoFar-next (limits_row c.args.lattice.now.names) (members_of (members_view c.args.table.now.entries)) c.rows.key-iterator c.next.new.self c.in-Some.key.now c.in-Some.value.now c.rows.limits.items c.push.new.self.items c.in_ok-row.row c.rows.invariant.2 step is pushed,
       subst (λ (x : List (ℕ × Limits)). All (IsRowOf (count c.args.lattice.now)) x) (sym pushed) (all_more (IsRowOf (count c.args.lattice.now)) c.rows.limits.items c.in_ok-row.row c.rows.invariant.3 c.in_ok-row.ensures.row),
     )

@@ -1,4 +1,4 @@
-use Rattle.trapeze_host.specs.Standing.{modules_in}
+use Rattle.trapeze_host.specs.Standing.{modules_lent}
 use Rattle.trapeze_cli.proofs.Playing.{err_is}
 use Rattle.trapeze_cli.proofs.Fronts.{front_none}
 use Rattle.trapeze_cli.proofs.Telling.{facets_told, all_labelled}
@@ -13,5 +13,5 @@ write_lines-requires-clause-labelled g c =
 
 pub returns-clause-lines : goal.returns-clause-lines
 returns-clause-lines g c = λ s is.
-    facets_told c.args.scene.now.policy.now (modules_in c.args.host.now) c.args.scene.now.shown s _ c.facet_lines.new.lines c.write_lines.result _ _ c.new-lines.ensures
+    facets_told c.args.scene.now.policy.now (modules_lent c.args.host.now) c.args.scene.now.shown s _ c.facet_lines.new.lines c.write_lines.result _ _ c.new-lines.ensures
     (c.in_ok-facet_lines.ensures.added s is) (rw c.as_slice.ensures at c.write_lines.ensures.lines)

@@ -1,6 +1,6 @@
 use Rattle.std.proofs.Common.{◌∙◌, ap, Err, Ok}
 use Rattle.event_file.specs.Reader.{Reader}
-use Rattle.trapeze_host.specs.Standing.{modules_in}
+use Rattle.trapeze_host.specs.Standing.{modules_lent}
 use Rattle.trapeze_cli.specs.Played.{entry_events}
 use Rattle.trapeze_cli.specs.Runs.{setting_of}
 use Rattle.trapeze_cli.proofs.Playing.{err_is, state_after}
@@ -22,7 +22,7 @@ pub returns-in_err-play_entry-in-Entry-clause-lines : goal.returns-in_err-play_e
 returns-in_err-play_entry-in-Entry-clause-lines g c = λ s is.
     let good = c.requires.dry.good in
     let read = last_entry c.args.reader.now _ c.in-Entry.entry (c.in-Entry.ensures.answer good) (c.in-Entry.ensures.entries good) in
-    let setting = setting_of c.args.scene.now.policy.now (modules_in c.args.host.now) c.args.scene.now.shown in
+    let setting = setting_of c.args.scene.now.policy.now (modules_lent c.args.host.now) c.args.scene.now.shown in
     rw (err_is _ _ c.from_residual.ensures.1)
     (last_halts setting s _ c.in-Entry.entry _ (g.S.Sink.written c.args.out.now) (g.S.Sink.written c.play_entry.new.out) read (c.in_err-play_entry-in-Entry.ensures.plays.lines s is))
 
@@ -31,7 +31,7 @@ returns-in_err-write_facets-in-Entry-clause-lines g c = λ s is.
     let good = c.requires.dry.good in
     let read = last_entry c.args.reader.now _ c.in-Entry.entry (c.in-Entry.ensures.answer good) (c.in-Entry.ensures.entries good) in
     let one = c.in_ok-play_entry-in-Entry.ensures in
-    let setting = setting_of c.args.scene.now.policy.now (modules_in c.args.host.now) c.args.scene.now.shown in
+    let setting = setting_of c.args.scene.now.policy.now (modules_lent c.args.host.now) c.args.scene.now.shown in
     rw (err_is _ _ c.from_residual-in_err-write_facets-in-Entry.ensures.1)
     (told_halt _ _ _ _
     (last_told {A = Unit {0}} setting s _ c.in-Entry.entry (Err c.in_err-write_facets-in-Entry.field-0.0) (g.S.Sink.written c.args.out.now) (g.S.Sink.written c.play_entry.new.out) (g.S.Sink.written c.write_facets.new.out) read
@@ -42,17 +42,17 @@ returns-in_ok-write_facets-in-Entry-clause-lines g c = λ s is.
     let good = c.requires.dry.good in
     let read = last_entry c.args.reader.now _ c.in-Entry.entry (c.in-Entry.ensures.answer good) (c.in-Entry.ensures.entries good) in
     let one = c.in_ok-play_entry-in-Entry.ensures in
-    let setting = setting_of c.args.scene.now.policy.now (modules_in c.args.host.now) c.args.scene.now.shown in
+    let setting = setting_of c.args.scene.now.policy.now (modules_lent c.args.host.now) c.args.scene.now.shown in
     last_told {A = Unit {0}} setting s _ c.in-Entry.entry (Ok tt) (g.S.Sink.written c.args.out.now) (g.S.Sink.written c.play_entry.new.out) (g.S.Sink.written c.write_facets.new.out) read
     (one.plays.lines s is) (c.in_ok-write_facets-in-Entry.ensures.lines (state_after setting s (entry_events c.in-Entry.entry)) (one.plays.state s is))
 
 pub returns-in-Bad-clause-lines : goal.returns-in-Bad-clause-lines
 returns-in-Bad-clause-lines g c = λ s is.
-    bad_told (setting_of c.args.scene.now.policy.now (modules_in c.args.host.now) c.args.scene.now.shown) s _ c.in-Bad.bad _ (c.in-Bad.ensures.entries c.requires.dry.good)
+    bad_told (setting_of c.args.scene.now.policy.now (modules_lent c.args.host.now) c.args.scene.now.shown) s _ c.in-Bad.bad _ (c.in-Bad.ensures.entries c.requires.dry.good)
 
 pub returns-in_err-write_facets-in-NoLine-clause-lines : goal.returns-in_err-write_facets-in-NoLine-clause-lines
 returns-in_err-write_facets-in-NoLine-clause-lines g c = λ s is.
-    let setting = setting_of c.args.scene.now.policy.now (modules_in c.args.host.now) c.args.scene.now.shown in
+    let setting = setting_of c.args.scene.now.policy.now (modules_lent c.args.host.now) c.args.scene.now.shown in
     rw (err_is _ _ c.from_residual-in_err-write_facets-in-NoLine.ensures.1)
     (told_halt _ _ _ _
     (none_told {A = Unit {0}} setting s _ (Err c.in_err-write_facets-in-NoLine.field-0.0) (g.S.Sink.written c.args.out.now) (g.S.Sink.written c.write_facets-in-NoLine.new.out) (c.in-NoLine.ensures.entries c.requires.dry.good)
@@ -60,7 +60,7 @@ returns-in_err-write_facets-in-NoLine-clause-lines g c = λ s is.
 
 pub returns-in_ok-write_facets-in-NoLine-clause-lines : goal.returns-in_ok-write_facets-in-NoLine-clause-lines
 returns-in_ok-write_facets-in-NoLine-clause-lines g c = λ s is.
-    let setting = setting_of c.args.scene.now.policy.now (modules_in c.args.host.now) c.args.scene.now.shown in
+    let setting = setting_of c.args.scene.now.policy.now (modules_lent c.args.host.now) c.args.scene.now.shown in
     none_told {A = Unit {0}} setting s _ (Ok tt) (g.S.Sink.written c.args.out.now) (g.S.Sink.written c.write_facets-in-NoLine.new.out) (c.in-NoLine.ensures.entries c.requires.dry.good)
     (c.in_ok-write_facets-in-NoLine.ensures.lines s is)
 

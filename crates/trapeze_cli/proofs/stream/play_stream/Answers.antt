@@ -3,7 +3,7 @@ use Rattle.std.proofs.lemmas.List.{length-take-le}
 use Rattle.trapeze_io.specs.Seen.{Gives}
 use Rattle.trapeze_io.proofs.Moved.{Gives-nil, Gives-last, Gives-trans, OpensNone-same, OpensNone-trans}
 use Rattle.host_rules.specs.States.{start}
-use Rattle.trapeze_host.specs.Standing.{modules_in, known_in}
+use Rattle.trapeze_host.specs.Standing.{modules_lent, known_in}
 use Rattle.trapeze_cli.specs.Played.{events_of}
 use Rattle.trapeze_cli.specs.Runs.{setting_of}
 use Rattle.trapeze_cli.proofs.Playing.{plays_none, state_after}
@@ -40,7 +40,7 @@ pieces-init g c =
 pub returns-in_default-clause-answers : goal.returns-in_default-clause-answers
 returns-in_default-clause-answers g c =
     let inv = c.pieces.invariant in
-    let setting = setting_of c.args.scene.now.policy.now (modules_in c.args.host.now) c.args.scene.now.shown in
+    let setting = setting_of c.args.scene.now.policy.now (modules_lent c.args.host.now) c.args.scene.now.shown in
     told (g.F.Files.seen c.args.files.now).current (g.F.Files.seen c.read.new.self).current inv.given c.requires.begun
     (subst (λ r. Gives (g.F.Files.seen c.args.files.now).current r inv.given) (sym c.in_default.ensures.bytes) inv.gives)
     (λ r same. answers_fault setting r inv.given inv.entries c.pieces.reader _ _ same inv.within inv.follows inv.dry (inv.plays.lines (start []) c.requires.stands))
@@ -48,7 +48,7 @@ returns-in_default-clause-answers g c =
 pub returns-then-count-eq0-clause-answers : goal.returns-then-count-eq0-clause-answers
 returns-then-count-eq0-clause-answers g c =
     let inv = c.pieces.invariant in
-    let setting = setting_of c.args.scene.now.policy.now (modules_in c.args.host.now) c.args.scene.now.shown in
+    let setting = setting_of c.args.scene.now.policy.now (modules_lent c.args.host.now) c.args.scene.now.shown in
     let state = state_after setting (start []) (events_of inv.entries) in
     let none : c.in-Ok.count ≡ 0 = c.if-count-eq0.true in
     let full = room_long c.room.result c.read.new.buf c.pieces.buffer c.read.auto.buf c.room.array_long c.room.ensures.piece in
@@ -64,7 +64,7 @@ returns-then-count-eq0-clause-answers g c =
 pub returns-then-fed-ge-EVENTS_LIMIT-clause-answers : goal.returns-then-fed-ge-EVENTS_LIMIT-clause-answers
 returns-then-fed-ge-EVENTS_LIMIT-clause-answers g c =
     let inv = c.pieces.invariant in
-    let setting = setting_of c.args.scene.now.policy.now (modules_in c.args.host.now) c.args.scene.now.shown in
+    let setting = setting_of c.args.scene.now.policy.now (modules_lent c.args.host.now) c.args.scene.now.shown in
     let over = take c.in-Ok.count c.read.new.buf in
     let long : length over ≡ c.in-Ok.count = length-take-le c.in-Ok.count c.read.new.buf c.in-Ok.ensures.bound.0 in
     told (g.F.Files.seen c.args.files.now).current (g.F.Files.seen c.read.new.self).current (inv.given ++ over) c.requires.begun
@@ -75,7 +75,7 @@ returns-then-fed-ge-EVENTS_LIMIT-clause-answers g c =
 pub returns-in_default-feed-clause-answers : goal.returns-in_default-feed-clause-answers
 returns-in_default-feed-clause-answers g c =
     let inv = c.pieces.invariant in
-    let setting = setting_of c.args.scene.now.policy.now (modules_in c.args.host.now) c.args.scene.now.shown in
+    let setting = setting_of c.args.scene.now.policy.now (modules_lent c.args.host.now) c.args.scene.now.shown in
     let last = take c.in-Ok.count c.read.new.buf in
     told (g.F.Files.seen c.args.files.now).current (g.F.Files.seen c.read.new.self).current (inv.given ++ last) c.requires.begun
     (Gives-trans _ (g.F.Files.seen c.pieces.files).current _ inv.given last inv.gives c.in-Ok.ensures.bytes.0)
@@ -121,7 +121,7 @@ pieces-preserved g c =
 pub returns-in-Ok-Some-clause-answers : goal.returns-in-Ok-Some-clause-answers
 returns-in-Ok-Some-clause-answers g c =
     let inv = c.pieces.invariant in
-    let setting = setting_of c.args.scene.now.policy.now (modules_in c.args.host.now) c.args.scene.now.shown in
+    let setting = setting_of c.args.scene.now.policy.now (modules_lent c.args.host.now) c.args.scene.now.shown in
     let state = state_after setting (start []) (events_of inv.entries) in
     let read = c.in-Ok.ensures in
     let tail = drop c.room.result c.pieces.buffer in
@@ -140,7 +140,7 @@ returns-in-Ok-Some-clause-answers g c =
 pub returns-in-Err-clause-answers : goal.returns-in-Err-clause-answers
 returns-in-Err-clause-answers g c =
     let inv = c.pieces.invariant in
-    let setting = setting_of c.args.scene.now.policy.now (modules_in c.args.host.now) c.args.scene.now.shown in
+    let setting = setting_of c.args.scene.now.policy.now (modules_lent c.args.host.now) c.args.scene.now.shown in
     let state = state_after setting (start []) (events_of inv.entries) in
     let read = c.in-Ok.ensures in
     let tail = drop c.room.result c.pieces.buffer in

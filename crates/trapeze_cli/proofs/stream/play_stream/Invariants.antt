@@ -1,7 +1,7 @@
 use Rattle.std.proofs.Common.{◌≡◌, ◌≤◌, ◌-◌, ℕ, Ok, length, List}
 use Rattle.trapeze_io.specs.Seen.{OpensNone, Gives}
 use Rattle.event_file.specs.declared.entry.Entry.{Entry}
-use Rattle.trapeze_host.specs.Standing.{policy_in, modules_in, is_spent, played_in, known_in, Stands}
+use Rattle.trapeze_host.specs.Standing.{policy_lent, modules_lent, is_spent, played_in, known_in, Stands}
 use Rattle.trapeze_cli.specs.Played.{events_of}
 use Rattle.trapeze_cli.specs.Runs.{setting_of}
 use Rattle.trapeze_cli.specs.Playing.{CanPlay, IsPaced, PlaysOn, IsDry, Follows}
@@ -16,11 +16,11 @@ invariant-pieces g l = record {
   follows : Follows (known_in l.scene.policy.now) given entries l.reader;
   dry : IsDry l.reader;
   within : length given ≤ 67108864;
-  plays : PlaysOn {A = Unit {0}} (setting_of l.scene.policy.now (modules_in l.initial.host) l.scene.shown) (Stands g.T.Facets.rows l.initial.host) (Stands g.T.Facets.rows l.host)
+  plays : PlaysOn {A = Unit {0}} (setting_of l.scene.policy.now (modules_lent l.initial.host) l.scene.shown) (Stands g.T.Facets.rows l.initial.host) (Stands g.T.Facets.rows l.host)
       (events_of entries) (Ok tt) (g.S.Sink.written l.initial.out) (g.S.Sink.written l.out);
-  can : CanPlay l.scene.policy.now (policy_in l.host) (is_spent l.host);
+  can : CanPlay l.scene.policy.now (policy_lent l.host) (is_spent l.host);
   paced : IsPaced l.scene.policy.now l.reader (played_in l.host);
-  modules : modules_in l.host ≡ modules_in l.initial.host;
+  modules : modules_lent l.host ≡ modules_lent l.initial.host;
   none : OpensNone (g.F.Files.seen l.initial.files) (g.F.Files.seen l.files);
   later : g.S.Sink.faults l.initial.out ≤ g.S.Sink.faults l.out;
 }

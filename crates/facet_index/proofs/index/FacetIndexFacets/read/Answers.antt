@@ -4,7 +4,8 @@ use Rattle.std.specs.Option.{option_copied}
 use Rattle.std.specs.Map.{lookup}
 use Rattle.label_lattice.specs.Order.{count}
 use Rattle.label_lattice.specs.Reach.{flows}
-use Rattle.facet_list.specs.Rows.{Member, Row, read_row, row_of, IsValue}
+use Rattle.trapeze_io.specs.Sizes.{IsValue}
+use Rattle.facet_list.specs.Rows.{Member, Row, read_row, row_of}
 use Rattle.facet_list.proofs.Sizes.{read_sized}
 use Rattle.facet_index.specs.Rows.{rows_in}
 use Rattle.facet_index.proofs.MapRows.{row_found, finds}

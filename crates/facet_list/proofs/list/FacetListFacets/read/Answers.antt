@@ -6,7 +6,8 @@ use Rattle.std.proofs.lemmas.List.Elements.{All-get_or}
 use Rattle.label_lattice.specs.Order.{count}
 use Rattle.label_lattice.specs.Reach.{flows}
 use Rattle.facet_list.specs.Store.{Write, read}
-use Rattle.facet_list.specs.Rows.{rows_of, IsValue, AreBelow}
+use Rattle.trapeze_io.specs.Sizes.{IsValue}
+use Rattle.facet_list.specs.Rows.{rows_of, AreBelow}
 use Rattle.facet_list.proofs.RowLaws.{read_rows_of, read_more}
 use Rattle.facet_list.proofs.Sizes.{below_of, read_sized}
 use Rattle.facet_list.proofs.list.FacetListFacets.read.Goals as goal

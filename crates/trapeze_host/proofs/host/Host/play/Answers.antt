@@ -7,7 +7,7 @@ use Rattle.policy_toml.specs.Parts.{Parts}
 use Rattle.wasm_ast.specs.declared.modules.Module.{Module}
 use Rattle.trapeze_host.specs.Adding.{AddsPart}
 use Rattle.trapeze_host.specs.Loans.{rules_in, guest_in}
-use Rattle.trapeze_host.specs.Keeping.{Held}
+use Rattle.trapeze_host.specs.Keeping.{HostParts}
 use Rattle.trapeze_host.specs.Standing.{Plays}
 use Rattle.trapeze_host.specs.Observing.{Hides, Mirrors}
 use Rattle.trapeze_host.proofs.Hosts.{policy_is, modules_are, spent_is, played_is, stands_inside, policy_inside, modules_inside, spent_inside, played_inside, few_inside, event_inside, labelled_inside, by_lent, as_plays}
@@ -28,7 +28,7 @@ returns-in-Ok-clause-moved g c = λ s stands.
     let rows = g.F.Facets.rows in
     let i = c.self.inside in
     let made = c.in-Ok.ensures.moved s (stands_inside _ c.args.self.now c.self.view_is rows s stands) in
-    let host : Held g.row.F.Denot = record { lent = i.lent; kept = c.play-done.new.self; spent = i.spent; played = i.played + 1 } in
+    let host : HostParts g.row.F.Denot = record { lent = i.lent; kept = c.play-done.new.self; spent = i.spent; played = i.played + 1 } in
     by_lent _ c.args.self.now c.self.view_is (λ (p : Parts) (ms : List Module). Plays rows (step (rules_of p) (guest_of ms) s (Happens c.args.event.now)) host c.args.lines.now c.play-done.new.lines)
     (as_plays host rows _ c.args.lines.now c.play-done.new.lines made)
 

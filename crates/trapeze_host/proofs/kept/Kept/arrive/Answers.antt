@@ -5,7 +5,7 @@ use Rattle.trapeze_lines.specs.Lines.{line_at}
 use Rattle.wasm_semantics.specs.Threads.{Thread}
 use Rattle.host_rules.specs.States.{State, told, push}
 use Rattle.std.specs.Prelude.{option_map}
-use Rattle.trapeze_host.specs.Keeping.{serving_of, activation_of, Keeps, IsFit}
+use Rattle.trapeze_host.specs.Keeping.{serving_of, activation_of, Keeps, IsFitActivation}
 use Rattle.trapeze_host.proofs.Adding.{all_push}
 use Rattle.trapeze_host.proofs.Keeping.{by_line, keeps_list, keeps_same_list}
 use Rattle.trapeze_host.proofs.Lists.{sound_list}
@@ -41,7 +41,7 @@ returns-in-Ok-clause-sound g c =
     let k = c.args.self.now in
     let l = c.args.at.number in
     sound_list g.F.Facets.limits c.args.lent.now k c.arrive.new.self l (list_of k.queues l ++ c.args.activation ∷ []) c.requires.sound (omega (arith, c.requires.at, c.requires.sound.lists)) c.in-Ok.ensures.ok
-    (all_push (IsFit c.args.lent.now k.requests) (list_of k.queues l) c.args.activation (c.requires.sound.fit l) c.requires.fit)
+    (all_push (IsFitActivation c.args.lent.now k.requests) (list_of k.queues l) c.args.activation (c.requires.sound.fit l) c.requires.fit)
 
 pub returns-in-Err-default-Full-clause-moved : goal.returns-in-Err-default-Full-clause-moved
 returns-in-Err-default-Full-clause-moved g c = λ s keeps.

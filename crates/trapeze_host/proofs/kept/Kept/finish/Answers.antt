@@ -5,7 +5,7 @@ use Rattle.trapeze_lines.specs.declared.line.Kind.TheVariants as kind
 use Rattle.trapeze_lines.specs.Lines.{line_at}
 use Rattle.wasm_semantics.specs.Threads.{Thread}
 use Rattle.host_rules.specs.States.{State, told, leave}
-use Rattle.trapeze_host.specs.Keeping.{serving_of, IsFit}
+use Rattle.trapeze_host.specs.Keeping.{serving_of, IsFitActivation}
 use Rattle.trapeze_host.proofs.Keeping.{by_line}
 use Rattle.trapeze_host.proofs.Lists.{sound_list}
 use Rattle.trapeze_host.proofs.Closings.{all_drop, keeps_left}
@@ -32,4 +32,4 @@ returns-clause-sound g c =
     let k = c.args.self.now in
     let l = c.args.run.now.at.number in
     sound_list g.F.Facets.limits loan k c.leave.new.self l (drop 1 (list_of k.queues l)) c.requires.sound (omega (arith, c.requires.run.at, c.requires.sound.lists)) c.leave.ensures.rest
-    (all_drop (IsFit loan k.requests) (list_of k.queues l) (c.requires.sound.fit l))
+    (all_drop (IsFitActivation loan k.requests) (list_of k.queues l) (c.requires.sound.fit l))

@@ -8,7 +8,7 @@ use Rattle.host_rules.specs.Turns.{ends}
 use Rattle.trapeze_host.specs.declared.requests.Requests.{Requests}
 use Rattle.trapeze_host.specs.declared.kept.Activation.{Activation as Kept_activation}
 use Rattle.trapeze_host.specs.Loans.{rules_in, module_in}
-use Rattle.trapeze_host.specs.Keeping.{IsFit}
+use Rattle.trapeze_host.specs.Keeping.{IsFitActivation}
 use Rattle.trapeze_host.specs.Turning.{run_of}
 use Rattle.trapeze_host.proofs.Keeping.{then_makes, part_then}
 use Rattle.trapeze_host.proofs.Closings.{fit_run}
@@ -29,7 +29,7 @@ arrive-requires-clause-fit g c =
     let loan = c.args.lent.now in
     let r = c.args.run in
     let a : Kept_activation = record { function = r.function; input = r.input; serves = r.serves; sandbox = Some c.args.sandbox; used = 0 } in
-    subst (λ (t : Requests). IsFit loan t a) (sym c.finish.ensures.requests) (fit_run loan c.args.self.now.requests r c.args.sandbox 0 c.requires.run c.requires.ready)
+    subst (λ (t : Requests). IsFitActivation loan t a) (sym c.finish.ensures.requests) (fit_run loan c.args.self.now.requests r c.args.sandbox 0 c.requires.run c.requires.ready)
 
 pub returns-clause-moved : goal.returns-clause-moved
 returns-clause-moved g c = λ before given s keeps.

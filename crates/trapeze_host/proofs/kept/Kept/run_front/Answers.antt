@@ -6,7 +6,7 @@ use Rattle.host_rules.specs.States.{Moved}
 use Rattle.trapeze_host.specs.declared.kept.Activation.{Activation}
 use Rattle.trapeze_host.specs.Loans.{rules_in, guest_in, module_in}
 use Rattle.label_queues.specs.Lists.{list_of}
-use Rattle.trapeze_host.specs.Keeping.{Makes, IsFit}
+use Rattle.trapeze_host.specs.Keeping.{Makes, IsFitActivation}
 use Rattle.trapeze_host.proofs.Closings.{all_front}
 use Rattle.trapeze_host.proofs.Running.{sound_husk, front_run, husked, keeps_husk, turn_runs, turn_traps}
 use Rattle.trapeze_host.proofs.kept.Kept.run_front.Goals as goal
@@ -61,5 +61,5 @@ returns-in-Err-clause-sound g c = sound_husk g.F.Facets.limits c.args.lent.now c
 
 pub begin-requires-clause-ready : goal.begin-requires-clause-ready
 begin-requires-clause-ready g c =
-    (all_front (IsFit c.args.lent.now c.args.self.now.requests) (list_of c.args.self.now.queues c.args.at.number) c.replace_front-front.result
+    (all_front (IsFitActivation c.args.lent.now c.args.self.now.requests) (list_of c.args.self.now.queues c.args.at.number) c.replace_front-front.result
     c.replace_front-front.ensures.front (c.requires.sound.fit c.args.at.number)).ready

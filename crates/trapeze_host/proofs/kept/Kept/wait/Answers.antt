@@ -7,7 +7,7 @@ use Rattle.trapeze_lines.specs.Lines.{line_at}
 use Rattle.wasm_semantics.specs.Threads.{Thread}
 use Rattle.host_rules.specs.States.{State, told, leave, push}
 use Rattle.trapeze_host.specs.declared.kept.Activation.{Activation}
-use Rattle.trapeze_host.specs.Keeping.{serving_of, activation_of, IsFit}
+use Rattle.trapeze_host.specs.Keeping.{serving_of, activation_of, IsFitActivation}
 use Rattle.trapeze_host.proofs.Adding.{all_push}
 use Rattle.trapeze_host.proofs.Keeping.{by_line}
 use Rattle.trapeze_host.proofs.Lists.{sound_list}
@@ -42,5 +42,5 @@ returns-clause-sound g c =
     let queues : c.rotate.new.self ≡ with_list k.queues l (drop 1 (list_of k.queues l) ++ a ∷ []) =
     replaced_turned k.queues c.replace_front.new.queues c.rotate.new.self l a (omega (arith, c.requires.run.at, c.requires.sound.lists)) c.requires.some c.replace_front.ensures.after c.rotate.ensures in
     sound_list g.F.Facets.limits loan k c.rotate.new.self l (drop 1 (list_of k.queues l) ++ a ∷ []) c.requires.sound (omega (arith, c.requires.run.at, c.requires.sound.lists)) queues
-    (all_push (IsFit loan k.requests) (drop 1 (list_of k.queues l)) a (all_drop (IsFit loan k.requests) (list_of k.queues l) (c.requires.sound.fit l))
+    (all_push (IsFitActivation loan k.requests) (drop 1 (list_of k.queues l)) a (all_drop (IsFitActivation loan k.requests) (list_of k.queues l) (c.requires.sound.fit l))
     (fit_run loan k.requests r c.args.sandbox (r.used + c.args.given) c.requires.run c.requires.ready))
