@@ -48,7 +48,7 @@ pub record Image (R : List ValType → List ValType → Type 0) (P Q : List ValT
   pub reached : (before after : List ValType) → P before → R before after → IsTrue ok × Q after
   pub source : IsTrue ok → (after : List ValType) → Q after → (before : List ValType) × P before × R before after
 
--- the operands become exactly those that R leaves of them, unless memory was wanting
+-- the operands become exactly those that R leaves of them, unless out of memory
 abbrev pub Turns : {E : Type 0} → (List ValType → List ValType → Type 0) → Operands → Operands → Result Bool E → Type 0
 Turns R old new told = IfOk told (λ ok. Image R (Stand old) (Stand new) ok)
 

@@ -32,6 +32,6 @@ EffectAnywhere s y old new told = IfOk told (λ ok. (labels : List (Option ValTy
 abbrev pub Stepped : Scope → List (Option ValType) → Instr → Operands → Operands → Bool → Type 0
 Stepped s labels i old new ok = Image (Step (context_in s) (labels_of labels) i) (Stand old) (Stand new) ok
 
--- the answer is true exactly where the code leaves this from no operands, unless memory was wanting
+-- the answer is true exactly where the code leaves this from no operands, unless out of memory
 abbrev pub TellsTyping : {E : Type 0} → Context → List (List ValType) → List Instr → List ValType → Result Bool E → Type 0
 TellsTyping c labels code leaves told = IfOk told (λ typed. IsTrue typed ↔ Types c labels code [] leaves)

@@ -1,8 +1,7 @@
-pub mod FloatLemmas
-pub mod ConstantLemmas
-pub mod TypeLemmas
-pub mod NameLemmas
-pub mod BodyLemmas
-pub mod HandleLemmas
-pub mod HostLemmas
-pub mod RefusedLemmas
+pub mod WithFloats
+pub mod SameTypes
+pub mod Differing
+pub mod Bodies
+pub mod Entry
+pub mod Imported
+pub mod Refused

@@ -2,7 +2,7 @@
 
 use wasm_ast::{FloatPlace, SegmentPlace};
 
-/// The first test that a module fails, or that there was no memory. The tests come in the order of the variants.
+/// The first test that a module fails, or that it is out of memory. The tests come in the order of the variants.
 #[derive(Clone, Copy, Debug, PartialEq, Eq)]
 pub enum Invalid {
     /// A float type or a float instruction stands there first.

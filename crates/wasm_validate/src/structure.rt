@@ -5,17 +5,16 @@ ghost use Rattle.std.specs.Option.{option_copied};
 ghost use Rattle.std.specs.List.{list_all};
 ghost use Rattle.wasm_ast.specs.declared.func_types.FuncType.{FuncType};
 ghost use Rattle.wasm_ast.specs.declared.exports.Export.{Export};
-ghost use Rattle.wasm_ast.specs.Structure.{constant, constant_at, constant_value, is_constant_of};
+ghost use Rattle.wasm_ast.specs.Structure.{constant, constant_value as value_of_code, is_constant_of};
 ghost use Rattle.wasm_ast.specs.Structure.{is_at_most, is_table, is_memory, has_most_pages, is_global, space, names_differ};
 ghost use Rattle.wasm_ast.specs.Structure.{is_entry_type, is_start, is_element, is_piece, is_handle, rules};
 ghost use Rattle.wasm_ast.specs.Spaces.{function_count, table_size, first_pages, type_of};
-ghost use Rattle.wasm_ast.specs.Trees.{layer};
 ghost use Rattle.wasm_ast.specs.Validity.{handle_of, is_element_past, is_piece_past, segment_place};
 
 use crate::hosts::has_type;
 use wasm_ast::{
     Element, Export, ExportKind, GlobalVar, Instr, MemoryType, Module, Piece, SegmentPlace, Table,
-    ValType,
+    ValType, constant_of, constant_value,
 };
 use wasm_typing::{function_type, memory_in, table_in};
 
@@ -86,83 +85,12 @@ fn memories_fit(module: &Module) -> bool
     module.memories().len() <= 1 && each_memory_fits(module)
 }
 
-/// The type and the value of an expression that is one constant.
-fn constant_of(code: &[Instr]) -> Option<(ValType, u64)>
-    ensures { result ≡ constant code.now }
-{
-    match code {
-        [only] => constant_in(only),
-        _ => None,
-    }
-}
-
-fn i32_constant(value: u32) -> Option<(ValType, u64)>
-    ensures value { result ≡ Some (ValType.I32, value) }
-    ensures range { value < 2 ^ 32 }
-{
-    Some((ValType::I32, u64::from(value)))
-}
-
-fn i64_constant(value: u64) -> Option<(ValType, u64)>
-    ensures value { result ≡ Some (ValType.I64, value) }
-    ensures range { value < 2 ^ 64 }
-{
-    Some((ValType::I64, value))
-}
-
-fn constant_in(instr: &Instr) -> Option<(ValType, u64)>
-    ensures { result ≡ constant_at (layer instr.now) }
-{
-    match instr {
-        Instr::I32Const(value) => i32_constant(*value),
-        Instr::I64Const(value) => i64_constant(*value),
-        Instr::Unreachable => None,
-        Instr::Nop => None,
-        Instr::Block(_, _) => None,
-        Instr::Loop(_, _) => None,
-        Instr::If(_, _, _) => None,
-        Instr::Br(_) => None,
-        Instr::BrIf(_) => None,
-        Instr::BrTable(_, _) => None,
-        Instr::Return => None,
-        Instr::Call(_) => None,
-        Instr::CallIndirect(_) => None,
-        Instr::Drop => None,
-        Instr::Select => None,
-        Instr::LocalGet(_) => None,
-        Instr::LocalSet(_) => None,
-        Instr::LocalTee(_) => None,
-        Instr::GlobalGet(_) => None,
-        Instr::GlobalSet(_) => None,
-        Instr::Load(_, _, _) => None,
-        Instr::Store(_, _, _) => None,
-        Instr::MemorySize => None,
-        Instr::MemoryGrow => None,
-        Instr::MemoryCopy => None,
-        Instr::MemoryFill => None,
-        Instr::Num(_) => None,
-        Instr::FloatMemory(_, _, _) => None,
-        Instr::F32Const(_) => None,
-        Instr::F64Const(_) => None,
-        Instr::FloatOp(_) => None,
-    }
-}
-
 fn is_constant(wanted: ValType, code: &[Instr]) -> bool
     ensures { result ≡ is_constant_of wanted (constant code.now) }
 {
     match constant_of(code) {
         Some((found, _)) => found == wanted,
         None => false,
-    }
-}
-
-fn value_in(code: &[Instr]) -> u64
-    ensures { result ≡ constant_value code.now }
-{
-    match constant_of(code) {
-        Some((_, value)) => value,
-        None => 0,
     }
 }
 
@@ -292,7 +220,7 @@ fn element_past(module: &Module, element: &Element) -> bool
     };
     is_past(
         u64::from(size),
-        value_in(element.offset().items()),
+        constant_value(element.offset().items()),
         element.members().items().len(),
     )
 }
@@ -306,7 +234,7 @@ fn piece_past(module: &Module, piece: &Piece) -> bool
     };
     is_past(
         u64::from(pages) * 65536,
-        value_in(piece.offset().items()),
+        constant_value(piece.offset().items()),
         piece.bytes().as_slice().len(),
     )
 }

@@ -1,7 +1,7 @@
 use Rattle.std.proofs.Common.{length, refl, sym, ap, ◌∙◌, arith}
 use Rattle.wasm_ast.specs.Hosts.{host_named}
 use Rattle.wasm_frames.proofs.Calling.{get_at}
-use Rattle.wasm_validate.proofs.HostLemmas.{never_other}
+use Rattle.wasm_validate.proofs.Imported.{never_other}
 use Rattle.wasm_exec.proofs.Rows.{always_function, lent_row}
 use Rattle.wasm_exec.proofs.callees.lent.Goals as goal
 

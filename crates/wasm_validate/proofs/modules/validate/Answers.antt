@@ -1,4 +1,4 @@
-use Rattle.wasm_validate.proofs.RefusedLemmas.{only_for_memory, tells_the_fault}
+use Rattle.wasm_validate.proofs.Refused.{only_for_memory, tells_the_fault}
 use Rattle.wasm_validate.proofs.modules.validate.Goals as goal
 
 pub returns-in-Err-clause-valid : goal.returns-in-Err-clause-valid

@@ -1,6 +1,4 @@
-use Rattle.std.proofs.Common.{subst}
-use Rattle.wasm_ast.specs.Validity.{Valid}
-use Rattle.wasm_validate.proofs.HandleLemmas.{always_there}
+use Rattle.wasm_validate.proofs.Entry.{always_there}
 use Rattle.wasm_validate.proofs.modules.ValidModule.handle.Goals as goal
 
 pub unreachable-requires : goal.unreachable-requires

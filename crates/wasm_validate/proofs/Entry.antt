@@ -1,6 +1,6 @@
 -- The entry point of a valid module.
 use Rattle.std.proofs.Common.{◌≡◌, sym, subst}
-use Rattle.std.specs.Prelude.{Option, None}
+use Rattle.std.specs.Prelude.{None}
 use Rattle.wasm_ast.specs.declared.modules.Module.{Module}
 use Rattle.wasm_ast.specs.Validity.{Valid, handle_of, handle_fault}
 use Rattle.wasm_ast.proofs.Valids.{kept}
