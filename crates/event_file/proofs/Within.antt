@@ -1,6 +1,6 @@
 -- What a line says keeps to the limits.
 use Rattle.std.proofs.Common.{◌≡◌, ℕ, ◌<◌, ◌≤◌, Bool, true, false, cond, List, [], ◌∷◌, length, Option, None, Some, Result, Ok, Err, codes, refl, ap, subst, arith}
-use Rattle.std.specs.Prelude.{IfSome, IsTrue, ◌&&◌, nat_le, nat_eq}
+use Rattle.std.specs.Prelude.{IsTrue, ◌&&◌, nat_le, nat_eq}
 use Rattle.std.specs.Char.{is_ascii_digit}
 use Rattle.std.specs.List.{list_all}
 use Rattle.std.specs.Str.Parse.{digits_value}
@@ -14,7 +14,7 @@ use Rattle.label_lattice.specs.Order.{place_of}
 use Rattle.label_lattice.specs.declared.label.Label.{Label}
 use Rattle.trapeze_io.specs.Answers.{◌>>=◌}
 use Rattle.trapeze_io.specs.Names.{is_name}
-use Rattle.trapeze_io.specs.Sizes.{longest_key, longest_value}
+use Rattle.trapeze_io.specs.Sizes.{IsValue, longest_key, longest_value}
 use Rattle.trapeze_io.specs.Words.{words_of}
 use Rattle.event_file.specs.Known.{Known}
 use Rattle.event_file.specs.Lines.{is_too_long, is_remark}
@@ -60,20 +60,20 @@ bytes_within most (mark ∷ digits) out h =
 
 present_within : (r : Result (List ℕ) LineFault) (out : Option (List ℕ))
     → ((bytes : List ℕ) → r ≡ Ok bytes → length bytes ≤ longest_value) → present r ≡ Ok out
-    → IfSome out (λ bytes. length bytes ≤ longest_value)
-present_within (Ok bytes) None k h = tt
+    → IsValue out
+present_within (Ok bytes) None k h = omega arith
 present_within (Ok bytes) (Some out) k h = let e : bytes ≡ out = cc in let l = k bytes refl in omega (arith, ap length e)
-present_within (Err fault) None k h = tt
+present_within (Err fault) None k h = omega arith
 present_within (Err fault) (Some out) k h = absurd (cc)
 
 value_by : (b : Bool) (r : Result (Option (List ℕ)) LineFault) (out : Option (List ℕ))
-    → (r ≡ Ok out → IfSome out (λ bytes. length bytes ≤ longest_value)) → cond b (Ok None) r ≡ Ok out
-    → IfSome out (λ bytes. length bytes ≤ longest_value)
-value_by true r None k h = tt
+    → (r ≡ Ok out → IsValue out) → cond b (Ok None) r ≡ Ok out
+    → IsValue out
+value_by true r None k h = omega arith
 value_by true r (Some out) k h = absurd (cc)
 value_by false r out k h = k h
 
-value_within : (word : List ℕ) (out : Option (List ℕ)) → value_of word ≡ Ok out → IfSome out (λ bytes. length bytes ≤ longest_value)
+value_within : (word : List ℕ) (out : Option (List ℕ)) → value_of word ≡ Ok out → IsValue out
 unfolding value_of
 value_within word out h =
     value_by (bytes_eq word (codes "-")) (present (bytes_of longest_value word)) out
