@@ -1,12 +1,13 @@
--- What becomes of bytes that are released through a gate.
-use Rattle.std.specs.Prelude.{ℕ, ◌<◌, Bool, ◌==◌, ◌&&◌, List, Option, Some, None, nat_eq, if◌then◌else◌, take, length, All}
+-- Gates by their names, and what becomes of bytes that are released through one.
+use Rattle.std.specs.Prelude.{◌≢◌, ℕ, ◌<◌, Bool, ◌==◌, ◌&&◌, List, Option, Some, None, nat_eq, if◌then◌else◌, take, length, All, IsTrue}
 use Rattle.std.specs.Int.{w32, to_le_bytes}
 use Rattle.std.specs.Cmp.Lexicographic.{pointwise}
-use Rattle.std.specs.List.{list_any}
+use Rattle.std.specs.List.{list_any, AllPairs}
 use Rattle.std.specs.Map.{lookup}
 use Rattle.label_lattice.specs.Order.{Order}
 use Rattle.label_lattice.specs.Reach.{flows}
 use Rattle.label_lattice.specs.declared.label.Label.{Label}
+use Rattle.trapeze_io.specs.Names.{is_name}
 use Rattle.gate_rules.specs.declared.gate.Gate.{Gate}
 use Rattle.gate_rules.specs.declared.filter.Filter.{Filter}
 use Rattle.gate_rules.specs.declared.filter.Filter.TheVariants as filter
@@ -16,6 +17,14 @@ use Rattle.gate_rules.specs.declared.gates.Passage.TheVariants.{Pass, Vanishes, 
 -- the gate with the name, if there is one
 abbrev pub gate_of : List ℕ → List (List ℕ × Gate) → Option Gate
 gate_of name gates = lookup (pointwise nat_eq name) gates
+
+-- no two gates have one name
+abbrev pub AreNamedApart : List (List ℕ × Gate) → Type 0
+AreNamedApart gates = AllPairs (λ g h. g.0 ≢ h.0) gates
+
+-- each gate stands under a name
+abbrev pub AreUnderNames : List (List ℕ × Gate) → Type 0
+AreUnderNames gates = All (λ g. IsTrue (is_name g.0)) gates
 
 -- what a filter lets through: all bytes, their number as four bytes with the low one first, or the first of them
 abbrev pub filtered : Filter → List ℕ → List ℕ

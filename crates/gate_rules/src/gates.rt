@@ -2,8 +2,7 @@
 
 ghost use Rattle.std.specs.Prelude.{◌≡◌, ◌<◌, ◌≤◌, ◌++◌, ◌∷◌, [], None, length, take, IfOk, OnOk, OnErr};
 ghost use Rattle.label_lattice.specs.Order.{count};
-ghost use Rattle.gate_rules.specs.Apart.{AreNamedApart};
-ghost use Rattle.gate_rules.specs.Gates.{AreFromLabels, filtered, gate_of, has, leads, passed};
+ghost use Rattle.gate_rules.specs.Gates.{gate_of, filtered, has, leads, passed, AreFromLabels, AreNamedApart, AreUnderNames};
 
 use crate::filter::Filter;
 use crate::gate::Gate;
@@ -27,20 +26,20 @@ pub enum Passage {
 /// The table of gates.
 #[derive(Drop)]
 pub struct Gates {
-    gates: IndexMap<Vec<u8>, Gate>,
+    gates: IndexMap<Name, Gate>,
     alloc: Global,
 }
 
 impl Model for Gates {
-    ghost use Rattle.std.specs.Prelude.{List, ℕ, map};
+    ghost use Rattle.std.specs.Prelude.{List, ℕ};
     ghost use Rattle.gate_rules.specs.declared.gate.Gate.{Gate};
-    ghost use Rattle.gate_rules.specs.Apart.{AreNamedApart};
+    ghost use Rattle.gate_rules.specs.Gates.{AreNamedApart, AreUnderNames};
 
     ghost Value = { List (List ℕ × Gate) };
 
-    ghost view = { λ g. map (λ e. (e.0.items, e.1)) g.gates.entries };
+    ghost view = { λ g. g.gates.entries };
 
-    ghost invariant = { λ g. AreNamedApart (map (λ e. (e.0.items, e.1)) g.gates.entries) };
+    ghost invariant = { λ g. AreNamedApart g.gates.entries × AreUnderNames g.gates.entries };
 }
 
 impl Gates {
@@ -60,9 +59,8 @@ impl Gates {
         ensures ok { OnOk result (self.new ≡ self.old ++ (name, gate) ∷ []) }
         ensures err { OnErr result (self.new ≡ self.old) }
     {
-        let Ok(name) = Vec::from_slice(self.alloc, name.as_bytes()) else {
-            return Err(NoMemory);
-        };
+        // Its bytes tell that it is a name.
+        let _bytes = name.as_bytes();
         match self.gates.insert(name, gate) {
             Ok(_) => Ok(()),
             Err(_) => Err(NoMemory),
@@ -82,16 +80,28 @@ impl Gates {
         requires few { length bytes.now ≤ 65536 }
         ensures passed { IfOk result (λ passage. passage ≡ passed lattice.now at.number bytes.now (gate_of name.now self.now)) }
         ensures apart { AreNamedApart self.now }
+        ensures named { AreUnderNames self.now }
     {
-        let Some(gate) = self.gates.get(name) else {
+        let Some(gate) = self.gate_of(name) else {
             return Ok(Passage::Unknown);
         };
         if lattice.flows(at, gate.source) {
             let bytes = filtered(self.alloc, gate.filter, bytes)?;
-            Ok(Passage::Pass { gate: *gate, bytes })
+            Ok(Passage::Pass { gate, bytes })
         } else {
             Ok(Passage::Vanishes)
         }
+    }
+
+    /// The gate with this name, if there is one.
+    fn gate_of(&self, name: &[u8]) -> Option<Gate>
+        ensures gate { result ≡ gate_of name.now self.now }
+        ensures apart { AreNamedApart self.now }
+        ensures named { AreUnderNames self.now }
+    {
+        let gates = &self.gates;
+        let name = Name::read(name)?;
+        gates.get(&name).copied()
     }
 
     /// Whether some gate leads from the source to the target, into the function.

@@ -1,16 +1,21 @@
--- Tables by the contents of their keys.
-use Rattle.std.proofs.Common.{◌≡◌, ℕ, zero, suc, ◌<◌, Bool, true, false, cond, List, [], ◌∷◌, ◌++◌, Some, None, map, length, refl, sym, ◌∙◌, ap, arith, get_or, subst}
-use Rattle.std.specs.Prelude.{◌≢◌, if◌then◌else◌}
+-- Tables under names.
+use Rattle.std.proofs.Common.{◌≡◌, ℕ, zero, suc, ◌<◌, Bool, true, false, cond, List, [], ◌∷◌, Some, None, length, refl, sym, ◌∙◌, arith, get_or, nat_eq, subst}
+use Rattle.std.specs.Prelude.{◌≢◌, ◌++◌, All, IsTrue, Result, Ok, Err, OnOk, OnErr}
 use Rattle.std.specs.List.{AllPairs, IsDistinct}
 use Rattle.std.specs.Map.{lookup, keys_of}
+use Rattle.std.specs.Cmp.Lexicographic.{pointwise, bytes_decides}
 use Rattle.std.proofs.lemmas.List.{get_or-map, length-map}
+use Rattle.std.proofs.lemmas.List.Elements.{All-push, All-same}
 use Rattle.std.proofs.lemmas.Map.Keys.{apart_from_distinct}
-use Rattle.indexmap.specs.IndexMap.{insert_entry}
+use Rattle.indexmap.specs.IndexMap.{IndexMap, insert_entry}
+use Rattle.indexmap.proofs.CallerLemmas.{insert_entry-new}
+use Rattle.trapeze_io.specs.Names.{is_name}
+use Rattle.trapeze_io.specs.contracts.names.NamePartialEq.TheImpl.{eq-value}
+use Rattle.label_lattice.proofs.Places.{same_name}
 
--- a look-up by what a key holds
-pub lookup_held : {K H X : Type 0} (held : K → H) (p : H → Bool) (es : List (K × X)) → lookup (λ k. p (held k)) es ≡ lookup p (map (λ e. (held e.0, e.1)) es)
-lookup_held held p [] = refl
-lookup_held held p (e ∷ es) = ap (λ o. cond (p (held e.0)) (Some e.1) o) (lookup_held held p es)
+-- names in place find what their bytes find
+pub found_value : {X : Type 0} (name : List ℕ) (es : List (List ℕ × X)) → lookup (eq-value.it name) es ≡ lookup (pointwise nat_eq name) es
+found_value name es = λ i. lookup (λ k. same_name name k i) es
 
 -- what holds of each entry holds of the value that is found
 pub lookup_all : {H X : Type 0} (p : H → Bool) (P : X → Type 0) (es : List (H × X)) → ((k : ℕ) (d : H × X) → k < length es → P (get_or es k d).1) → (x : X) → lookup p es ≡ Some x → P x
@@ -21,32 +26,31 @@ lookup_all p P (entry ∷ es) all x e =
       | false ↦ λ found. lookup_all p P es (λ k d lt. all (suc k) d (omega arith)) x found
     ] e
 
--- an entry whose key is new goes last
-pub insert_fresh : {K H X : Type 0} (held : K → H) (eq : K → K → Bool) (p : H → Bool) (es : List (K × X)) (k : K) (v : X) → ((q : K) → eq k q ≡ p (held q)) → lookup p (map {B = H × X} (λ e. (held e.0, e.1)) es) ≡ None
-    → map {B = H × X} (λ e. (held e.0, e.1)) (insert_entry eq es k v) ≡ map {B = H × X} (λ e. (held e.0, e.1)) es ++ (held k, v) ∷ []
-insert_fresh held eq p [] k v same none = refl
-insert_fresh {K} {H} {X} held eq p (e ∷ es) k v same none =
-    elim (p (held e.0)) as (λ t. eq k e.0 ≡ t → cond t (Some e.1) (lookup p (map {B = H × X} (λ e. (held e.0, e.1)) es)) ≡ None
-    → map {B = H × X} (λ e. (held e.0, e.1)) (insert_entry eq (e ∷ es) k v) ≡ (held e.0, e.1) ∷ map {B = H × X} (λ e. (held e.0, e.1)) es ++ (held k, v) ∷ []) [
-      | true ↦ λ here found. absurd (cc)
-      | false ↦ λ here left. ap (λ t. map {B = H × X} (λ e. (held e.0, e.1)) (if t then (e.0, v) ∷ es else e ∷ insert_entry eq es k v)) here ∙ ap (λ x. (held e.0, e.1) ∷ x) (insert_fresh held eq p es k v same left)
-    ] (same e.0) none
+-- what is no name is not found among names
+pub no_value : {X : Type 0} (name : List ℕ) (es : List (List ℕ × X)) → (IsTrue (is_name name) → ⊥) → All (λ e. IsTrue (is_name e.0)) es → lookup (pointwise nat_eq name) es ≡ None
+no_value name [] bad all = refl
+no_value name (e ∷ es) bad all =
+    elim (pointwise nat_eq name e.0) as (λ t. pointwise nat_eq name e.0 ≡ t → cond t (Some e.1) (lookup (pointwise nat_eq name) es) ≡ None) [
+      | true ↦ λ same. absurd (bad (subst (λ n. IsTrue (is_name n)) (sym ((bytes_decides name e.0).0 same)) (all zero e (omega arith))))
+      | false ↦ λ other. no_value name es bad (λ k d lt. all (suc k) d (omega arith))
+    ] refl
 
--- where keys that hold the same are equal, distinct keys hold different things
-pub held_apart : {K H X : Type 0} (held : K → H) (eq : K → K → Bool) → ((a b : K) → held a ≡ held b → eq a b ≡ true) → (es : List (K × X)) → IsDistinct eq (keys_of es)
-    → AllPairs (λ c d. c.0 ≢ d.0) (map {B = H × X} (λ e. (held e.0, e.1)) es)
-held_apart held eq tells [] distinct i j d lt within = absurd (omega (arith, within))
-held_apart {K} {H} {X} held eq tells (e ∷ es) distinct i j d lt within =
-    let hold : K × X → H × X = λ x. (held x.0, x.1) in
-    let inside : j < length (e ∷ es) = subst (λ n. j < n) (length-map (e ∷ es) hold) within in
-    let before : i < length (e ∷ es) = omega (arith, lt, inside) in
-    let keyed : j < length (keys_of (e ∷ es)) = subst (λ n. j < n) (sym (length-map (e ∷ es) (λ x. x.0))) inside in
-    let differ : eq (get_or (keys_of (e ∷ es)) i e.0) (get_or (keys_of (e ∷ es)) j e.0) ≡ false = apart_from_distinct eq (keys_of (e ∷ es)) i j e.0 distinct lt keyed in
-    let first : get_or (keys_of (e ∷ es)) i e.0 ≡ (get_or (e ∷ es) i e).0 = get_or-map (λ x. x.0) (e ∷ es) i e e.0 before in
-    let second : get_or (keys_of (e ∷ es)) j e.0 ≡ (get_or (e ∷ es) j e).0 = get_or-map (λ x. x.0) (e ∷ es) j e e.0 inside in
-    let here : (get_or (map hold (e ∷ es)) i d).0 ≡ held (get_or (e ∷ es) i e).0 = ap (λ x. x.0) (get_or-map hold (e ∷ es) i e d before) in
-    let there : (get_or (map hold (e ∷ es)) j d).0 ≡ held (get_or (e ∷ es) j e).0 = ap (λ x. x.0) (get_or-map hold (e ∷ es) j e d inside) in
-    λ same. true_not_false (sym (tells (get_or (e ∷ es) i e).0 (get_or (e ∷ es) j e).0 (sym here ∙ same ∙ there)) ∙ ap (λ k. eq k (get_or (e ∷ es) j e).0) (sym first) ∙ ap (eq (get_or (keys_of (e ∷ es)) i e.0)) (sym second) ∙ differ)
-  where
-    true_not_false : true ≡ false → ⊥
-    true_not_false e = absurd cc
+-- distinct names in place are distinct bytes
+pub named_apart : {X : Type 0} (es : List (List ℕ × X)) → IsDistinct eq-value.it (keys_of es) → AllPairs (λ c d. c.0 ≢ d.0) es
+named_apart es distinct i j d lt within =
+    let keyed : j < length (keys_of es) = subst (λ n. j < n) (sym (length-map es (λ e. e.0))) within in
+    let first : get_or (keys_of es) i d.0 ≡ (get_or es i d).0 = get_or-map (λ e. e.0) es i d d.0 (omega arith) in
+    let second : get_or (keys_of es) j d.0 ≡ (get_or es j d).0 = get_or-map (λ e. e.0) es j d d.0 within in
+    let differ : eq-value.it (get_or (keys_of es) i d.0) (get_or (keys_of es) j d.0) ≡ false = apart_from_distinct eq-value.it (keys_of es) i j d.0 distinct lt keyed in
+    λ same. let k : true ≡ false = sym ((bytes_decides (get_or (keys_of es) i d.0) (get_or (keys_of es) j d.0)).1 (first ∙ same ∙ sym second)) ∙ sym (same_name (get_or (keys_of es) i d.0) (get_or (keys_of es) j d.0)) ∙ differ in cc
+
+module _ {X S : Type 0} (m : IndexMap (List ℕ) X S) (name : List ℕ) (x : X) (fresh : lookup (pointwise nat_eq name) m.entries ≡ None) where
+  -- an entry under a new name goes last
+  pub inserted_last : insert_entry eq-value.it m.entries name x ≡ m.entries ++ (name, x) ∷ []
+  inserted_last = insert_entry-new eq-value.it m name x (found_value name m.entries ∙ fresh)
+
+  -- and each entry stands under a name as before, also where the insertion was refused
+  pub inserted_named : {T E : Type 0} (r : Result T E) (now : List (List ℕ × X)) → All (λ e. IsTrue (is_name e.0)) m.entries → IsTrue (is_name name)
+      → OnOk r (now ≡ insert_entry eq-value.it m.entries name x) → OnErr r (now ≡ m.entries) → All (λ e. IsTrue (is_name e.0)) now
+  inserted_named (Ok y) now all good done same = All-same (λ e. IsTrue (is_name e.0)) now (m.entries ++ (name, x) ∷ []) (done ∙ inserted_last) (All-push (λ e. IsTrue (is_name e.0)) m.entries (name, x) all good)
+  inserted_named (Err y) now all good done same = All-same (λ e. IsTrue (is_name e.0)) now m.entries same all

@@ -31,20 +31,19 @@ pub enum Delivery {
 /// The table of channels.
 #[derive(Drop)]
 pub struct Channels {
-    channels: IndexMap<Vec<u8>, Channel>,
-    alloc: Global,
+    channels: IndexMap<Name, Channel>,
 }
 
 impl Model for Channels {
-    ghost use Rattle.std.specs.Prelude.{List, ℕ, map};
+    ghost use Rattle.std.specs.Prelude.{List, ℕ};
     ghost use Rattle.labelled_channel.specs.declared.channels.Channel.{Channel};
     ghost use Rattle.labelled_channel.specs.Delivering.{AreNamedApart, AreUnderNames};
 
     ghost Value = { List (List ℕ × Channel) };
 
-    ghost view = { λ c. map (λ e. (e.0.items, e.1)) c.channels.entries };
+    ghost view = { λ c. c.channels.entries };
 
-    ghost invariant = { λ c. AreNamedApart (map (λ e. (e.0.items, e.1)) c.channels.entries) × AreUnderNames (map (λ e. (e.0.items, e.1)) c.channels.entries) };
+    ghost invariant = { λ c. AreNamedApart c.channels.entries × AreUnderNames c.channels.entries };
 }
 
 impl Channels {
@@ -54,19 +53,17 @@ impl Channels {
     {
         Channels {
             channels: IndexMap::new(alloc),
-            alloc,
         }
     }
 
-    /// Adds a channel whose name is new.
+    /// Adds a channel whose name is new. A refusal changes nothing.
     pub fn add(&mut self, name: Name, at: Label, function: u32) -> Result<(), NoMemory>
         requires fresh { channel_of name self.old ≡ None }
         ensures ok { OnOk result (self.new ≡ self.old ++ (name, record { at = at; function = function }) ∷ []) }
         ensures err { OnErr result (self.new ≡ self.old) }
     {
-        let Ok(name) = Vec::from_slice(self.alloc, name.as_bytes()) else {
-            return Err(NoMemory);
-        };
+        // Its bytes tell that it is a name.
+        let _bytes = name.as_bytes();
         match self.channels.insert(name, Channel { at, function }) {
             Ok(_) => Ok(()),
             Err(_) => Err(NoMemory),
@@ -81,7 +78,7 @@ impl Channels {
         ensures apart { AreNamedApart self.now }
         ensures named { AreUnderNames self.now }
     {
-        let Some(channel) = self.channels.get(name) else {
+        let Some(channel) = self.channel_of(name) else {
             return Delivery::Unknown;
         };
         if lattice.flows(at, channel.at) {
@@ -89,6 +86,17 @@ impl Channels {
         } else {
             Delivery::Vanishes
         }
+    }
+
+    /// The channel with this name, if there is one.
+    fn channel_of(&self, name: &[u8]) -> Option<Channel>
+        ensures channel { result ≡ channel_of name.now self.now }
+        ensures apart { AreNamedApart self.now }
+        ensures named { AreUnderNames self.now }
+    {
+        let channels = &self.channels;
+        let name = Name::read(name)?;
+        channels.get(&name).copied()
     }
 
     /// How many channels there are.

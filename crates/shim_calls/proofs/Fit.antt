@@ -8,12 +8,11 @@ use Rattle.trapeze_io.specs.Answers.{◌>>=◌}
 use Rattle.label_lattice.specs.declared.label.Label.{Label}
 use Rattle.label_lattice.specs.Order.{Order}
 use Rattle.label_lattice.specs.Reach.{flows}
-use Rattle.label_lattice.proofs.Tables.{lookup_all}
+use Rattle.label_lattice.proofs.Tables.{lookup_all, no_value}
 use Rattle.labelled_channel.specs.declared.channels.Channel.{Channel}
 use Rattle.labelled_channel.specs.declared.channels.Delivery.{Delivery}
 use Rattle.labelled_channel.specs.declared.channels.Delivery.TheVariants as delivery
 use Rattle.labelled_channel.specs.Delivering.{channel_of, delivered, AreUnderNames}
-use Rattle.labelled_channel.proofs.Named.{channel_has_name}
 use Rattle.gate_rules.specs.declared.filter.Filter.{Filter}
 use Rattle.gate_rules.specs.declared.filter.Filter.TheVariants as filter
 use Rattle.gate_rules.specs.declared.gate.Gate.{Gate}
@@ -29,11 +28,7 @@ use Rattle.shim_calls.specs.Wished.{wished, sends}
 
 -- where bytes are no name, no channel has them
 pub unnamed : (P : Rules) (c : ℕ) (name bytes : List ℕ) → AreUnderNames P.channels → (IsTrue (is_name name) → ⊥) → wished P c (sends P name bytes) ≡ Err Unknown
-unnamed P c name bytes under not =
-    elim (channel_named P name) as (λ o. channel_named P name ≡ o → wished P c (ok_or o Unknown >>= (λ channel. Ok (wishes.Sends name channel bytes))) ≡ Err Unknown) [
-      | None ↦ λ e. refl
-      | Some channel ↦ λ e. absurd (not (channel_has_name name P.channels channel under e))
-    ] refl
+unnamed P c name bytes under bad = ap (λ o. wished P c (ok_or o Unknown >>= (λ channel. Ok (wishes.Sends name channel bytes)))) (no_value name P.channels bad under)
 
 abbrev IsFitDelivery : ℕ → ℕ → Delivery → Type 0
 IsFitDelivery labels functions (delivery.Start label function) = (label.number < labels) × (function < functions)

@@ -11,5 +11,5 @@ returns-clause-has c =
     let test = leads c.args.source c.args.target c.args.function in
     any_from_yields_List test _ _ c.any.result c.any.ensures.ran (YieldsList-from_rest c.values.result cc) (λ x b q k. search (rules, tests))
     ∙ ap (list_any test) c.values.ensures.rest
-    ∙ any_value (λ k. k.items) test c.self.inside.gates.entries
+    ∙ any_value test c.self.inside.gates.entries
     ∙ ap (has c.args.source c.args.target c.args.function) c.self.view_is
