@@ -1,6 +1,7 @@
 //! Gates by their names.
 
 ghost use Rattle.std.specs.Prelude.{◌≡◌, ◌<◌, ◌≤◌, ◌++◌, ◌∷◌, [], None, length, take, IfOk, OnOk, OnErr};
+ghost use Rattle.trapeze_io.specs.Sizes.{longest_value};
 ghost use Rattle.label_lattice.specs.Order.{count};
 ghost use Rattle.gate_rules.specs.Gates.{gate_of, filtered, has, leads, passed, AreFromLabels, AreNamedApart, AreUnderNames};
 
@@ -77,7 +78,7 @@ impl Gates {
     ) -> Result<Passage, NoMemory>
         requires from { at.number < count lattice.now }
         requires labels { AreFromLabels (count lattice.now) self.now }
-        requires few { length bytes.now ≤ 65536 }
+        requires few { length bytes.now ≤ longest_value }
         ensures passed { IfOk result (λ passage. passage ≡ passed lattice.now at.number bytes.now (gate_of name.now self.now)) }
         ensures apart { AreNamedApart self.now }
         ensures named { AreUnderNames self.now }
@@ -117,7 +118,7 @@ impl Gates {
 
 /// What the filter lets through of the bytes.
 fn filtered(alloc: Global, filter: Filter, bytes: &[u8]) -> Result<Bytes, NoMemory>
-    requires { length bytes.now ≤ 65536 }
+    requires { length bytes.now ≤ longest_value }
     ensures { IfOk result (λ copy. copy ≡ filtered filter bytes.now) }
 {
     match filter {
