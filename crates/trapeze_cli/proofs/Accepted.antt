@@ -8,7 +8,7 @@ use Rattle.trapeze_cli.specs.declared.status.Status.TheVariants as status
 use Rattle.trapeze_cli.specs.Command.{check_text}
 use Rattle.trapeze_cli.specs.Appends.{AppendsLess}
 use Rattle.trapeze_cli.specs.Ends.{SaysText}
-use Rattle.trapeze_cli.proofs.Fronts.{less_of}
+use Rattle.trapeze_cli.proofs.Prefixes.{less_of}
 
 -- the pieces of the line
 abbrev pub pieces_text : List ℕ → List ℕ → List ℕ → List ℕ → List ℕ

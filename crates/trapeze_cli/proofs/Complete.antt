@@ -15,9 +15,8 @@ use Rattle.trapeze_cli.specs.Played.{End, AtEnd, AtBad, PastLimit, played_of}
 use Rattle.trapeze_cli.specs.Promises.{IsGiven}
 use Rattle.trapeze_cli.specs.Runs.{Setting}
 use Rattle.trapeze_cli.specs.Statuses.{Says as SaysLine, Named, no_names, named_by, named_in, error_text, WithNames}
-use Rattle.trapeze_cli.specs.Steps.{ReadsPolicy}
 use Rattle.trapeze_cli.specs.Whys.{Finished, Refused, why, IsSaid, IsAnswered, Writes, OfTexts, IfReadFailed}
-use Rattle.trapeze_cli.proofs.Fronts.{all_none}
+use Rattle.trapeze_cli.proofs.Prefixes.{all_none}
 use Rattle.trapeze_cli.proofs.Refusals.{IfSome-map, IfSome-all}
 use Rattle.trapeze_cli.proofs.Tasks.{one_task}
 
@@ -76,16 +75,10 @@ module _ (words : Option Command) (held : Option Held) (given : List ℕ) (old n
   completes status.WriteFault f f1 k k1 a w r x quiet dry = absurd (dry (x refl))
   completes status.NoMemory f f1 k k1 a w r x quiet dry = inl refl
 
-abbrev names : List (List ℕ) → List (List ℕ) → Named
-names functions files = record { functions = functions; files = files }
-
 -- the functions of the policy that was read
-pub names_read : (form : Form) (held : Option Held) (name : List ℕ) (parts : Parts) → name ≡ policy_name form → IfSome held (λ h. ReadsPolicy (policy_in h name) parts)
+pub names_read : (form : Form) (held : Option Held) (name : List ℕ) (parts : Parts) → name ≡ policy_name form → IfSome held (λ h. policy_in h name ≡ Ok parts)
     → IfSome held (λ h. record { functions = parts.functions; files = parts.files } ≡ named_in (Some form) h)
-names_read form held name parts named reads = IfSome-map held (λ h r. by h r) reads
-  where
-    by : (h : Held) → ReadsPolicy (policy_in h name) parts → names parts.functions parts.files ≡ named_in (Some form) h
-    by h r = ap (λ functions. names functions parts.files) r.as_written.functions ∙ ap (names _) r.as_written.files ∙ ap named_by (sym r.accepted) ∙ ap (λ n. named_by (policy_in h n)) named
+names_read form held name parts named reads = IfSome-map held (λ h is. ap named_by (sym is) ∙ ap (λ n. named_by (policy_in h n)) named) reads
 
 module _ (words : Option Command) (form : Form) (of : Some (OnFiles form) ≡ words) (held : Option Held) (old new : Option (List ℕ)) (before now : ℕ) where
   -- the names are those of the policy, where the status names a function

@@ -20,7 +20,7 @@ use Rattle.trapeze_cli.specs.Appends.{AppendsLess}
 use Rattle.trapeze_cli.specs.Ends.{SaysText}
 use Rattle.trapeze_cli.specs.Exercise.{count_of, exercise_lines, exercise_text}
 use Rattle.trapeze_cli.specs.Counts.{counts_of, counts_text, counted_with, AtMost}
-use Rattle.trapeze_cli.proofs.Fronts.{less_of}
+use Rattle.trapeze_cli.proofs.Prefixes.{less_of}
 
 same_counts : {a b : Counts} → a.replies ≡ b.replies → a.turns ≡ b.turns → a.idle ≡ b.idle → a.dropped ≡ b.dropped → a.full ≡ b.full → a.facets ≡ b.facets → a ≡ b
 same_counts p q r s t u = λ i. record { replies = p i; turns = q i; idle = r i; dropped = s i; full = t i; facets = u i }

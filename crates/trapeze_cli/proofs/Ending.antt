@@ -14,7 +14,7 @@ use Rattle.trapeze_cli.specs.Ends.{IsFileOf}
 use Rattle.trapeze_cli.specs.Steps.{FaultsRose}
 use Rattle.trapeze_cli.specs.Whys.{why, IfReadFailed}
 use Rattle.trapeze_cli.proofs.Refusals.{IfSome-map, IfSome-all}
-use Rattle.trapeze_cli.proofs.Fronts.{all_none, front_none}
+use Rattle.trapeze_cli.proofs.Prefixes.{all_none, prefix_none}
 use Rattle.trapeze_cli.proofs.Showing.{said_nothing}
 
 -- an opened file
@@ -29,12 +29,13 @@ answers_unopened g old new out is =
       tells = (refl, refl, omega arith);
       ended = λ e. cc;
       past = λ e. cc;
+      stopped = λ bad e. cc;
       writes = all_none out ∙ ap (append_known out) (sym (said_nothing g));
     })
 
 -- out of memory before it was read
 pub answers_none : (g : Setting) (current : Option OpenFile) (out : Option (List ℕ)) → IfSome current (λ r. PlaysFile g r status.NoMemory out out)
-answers_none g current out = IfSome-all current (λ r. record { tells = tt; ended = λ e. cc; past = λ e. cc; writes = front_none (texts_of g r).all out })
+answers_none g current out = IfSome-all current (λ r. record { tells = tt; ended = λ e. cc; past = λ e. cc; stopped = λ bad e. cc; writes = prefix_none (texts_of g r).all out })
 
 -- the file that was not opened
 pub file_unopened : (held : Option Held) (name : List ℕ) (current : Option OpenFile) → IsFileOf held name current (status.ReadFault inputs.Events)

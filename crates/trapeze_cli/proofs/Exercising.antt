@@ -6,7 +6,6 @@ use Rattle.trapeze_io.specs.declared.failures.NoMemory.{NoMemory}
 use Rattle.wasm_ast.specs.declared.modules.Module.{Module}
 use Rattle.wasm_semantics.specs.Threads.{Thread}
 use Rattle.policy_toml.specs.Parts.{Parts}
-use Rattle.policy_toml.specs.PolicyOf.{IsAsWritten}
 use Rattle.event_file.specs.declared.entry.Event.{Event}
 use Rattle.trapeze_lines.specs.declared.line.Line.{Line}
 use Rattle.host_rules.specs.Rules.{Rules}
@@ -23,10 +22,8 @@ use Rattle.trapeze_cli.specs.declared.counts.Counts.{Counts}
 use Rattle.trapeze_cli.specs.Counts.{counts_of}
 use Rattle.trapeze_cli.specs.Counted.{TakesIn, Counted}
 use Rattle.trapeze_cli.specs.Exercise.{exercise_lines}
-use Rattle.trapeze_cli.specs.Runs.{rules_under}
 use Rattle.trapeze_lines.specs.Lines.{run_kinds}
 use Rattle.trapeze_cli.proofs.Counting.{counts_run}
-use Rattle.trapeze_cli.proofs.Written.{rules_same}
 
 -- lines that were given from an empty list
 pub takes_given : (empty lines told : List Line) (old new : Counts) → empty ≡ [] → lines ≡ empty ++ told → TakesIn lines old new → TakesIn told old new
@@ -92,20 +89,20 @@ module _ (P : Rules) (M : Guest Thread) (number : ℕ) where
 
 -- the lines of a policy and modules that are those of the exercise
 exercise_lines_are : (number : ℕ)
-    → exercise_lines number ≡ run_kinds (whole (rules_under built_in) (guest_of built_in_modules) (start []) (items_of (all_generated number)))
+    → exercise_lines number ≡ run_kinds (whole (rules_of built_in) (guest_of built_in_modules) (start []) (items_of (all_generated number)))
 unfolding exercise_lines
 exercise_lines_are number = refl
 
-exercised : (number : ℕ) (policy : Parts) (modules : List Module) (counts : Counts) → IsAsWritten built_in policy → modules ≡ built_in_modules
+exercised : (number : ℕ) (policy : Parts) (modules : List Module) (counts : Counts) → policy ≡ built_in → modules ≡ built_in_modules
     → counts ≡ counts_of (whole (rules_of policy) (guest_of modules) (start []) (items_of (all_generated number))) → counts ≡ counts_of (exercise_lines number)
-exercised number policy modules counts as_written same is =
-    is ∙ ap (λ (P : Rules). counts_of (whole P (guest_of modules) (start []) (items_of (all_generated number)))) (rules_same built_in policy as_written)
-    ∙ ap (λ (ms : List Module). counts_of (whole (rules_under built_in) (guest_of ms) (start []) (items_of (all_generated number)))) same
-    ∙ sym (counts_run (whole (rules_under built_in) (guest_of built_in_modules) (start []) (items_of (all_generated number))))
+exercised number policy modules counts policy_is modules_are is =
+    is ∙ ap (λ (p : Parts). counts_of (whole (rules_of p) (guest_of modules) (start []) (items_of (all_generated number)))) policy_is
+    ∙ ap (λ (ms : List Module). counts_of (whole (rules_of built_in) (guest_of ms) (start []) (items_of (all_generated number)))) modules_are
+    ∙ sym (counts_run (whole (rules_of built_in) (guest_of built_in_modules) (start []) (items_of (all_generated number))))
     ∙ ap counts_of (sym (exercise_lines_are number))
 
-pub exercised_ok : (number : ℕ) (policy : Parts) (modules : List Module) (result : Result Counts NoMemory) → IsAsWritten built_in policy → modules ≡ built_in_modules
+pub exercised_ok : (number : ℕ) (policy : Parts) (modules : List Module) (result : Result Counts NoMemory) → policy ≡ built_in → modules ≡ built_in_modules
     → IfOk result (λ counts. counts ≡ counts_of (whole (rules_of policy) (guest_of modules) (start []) (items_of (all_generated number))))
     → IfOk result (λ counts. counts ≡ counts_of (exercise_lines number))
-exercised_ok number policy modules (Ok counts) as_written same is = exercised number policy modules counts as_written same is
-exercised_ok number policy modules (Err refused) as_written same is = tt
+exercised_ok number policy modules (Ok counts) policy_is modules_are is = exercised number policy modules counts policy_is modules_are is
+exercised_ok number policy modules (Err refused) policy_is modules_are is = tt

@@ -14,7 +14,7 @@ use Rattle.trapeze_cli.specs.Runs.{Setting}
 use Rattle.trapeze_cli.specs.Appends.{AppendsAll}
 use Rattle.trapeze_cli.specs.Playing.{AppendsBy, said_of, text_from, lines_from}
 use Rattle.trapeze_cli.proofs.Showing.{said_nothing}
-use Rattle.trapeze_cli.proofs.Fronts.{all_none, by_after, by_longer, by_halt}
+use Rattle.trapeze_cli.proofs.Prefixes.{all_none, by_after, by_longer, by_halt}
 use Rattle.trapeze_cli.proofs.Playing.{state_after}
 use Rattle.trapeze_cli.proofs.Passing.{end_text}
 

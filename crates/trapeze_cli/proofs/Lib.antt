@@ -6,7 +6,7 @@ pub mod Policies
 pub mod Tasks
 pub mod Modules
 pub mod Showing
-pub mod Fronts
+pub mod Prefixes
 pub mod Playing
 pub mod Telling
 pub mod Hearing
@@ -17,7 +17,6 @@ pub mod Following
 pub mod Streaming
 pub mod Ending
 pub mod Accepted
-pub mod Written
 pub mod Privacy
 pub mod Outcomes
 pub mod Under

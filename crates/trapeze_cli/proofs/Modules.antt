@@ -101,8 +101,8 @@ take_one names f name is = take_more names f [] (slice_get_within names f name i
 pub names_at : (names : List (List ℕ)) (f : ℕ) (name : List ℕ) → slice_get names f ≡ Some name → names ≡ take f names ++ name ∷ drop (f + 1) names
 names_at names f name is = sym (take-append-drop (f + 1) names) ∙ ap (λ t. t ++ drop (f + 1) names) (take_one names f name is) ∙ append_assoc (take f names) (name ∷ []) (drop (f + 1) names)
 
-long_front : (names : List (List ℕ)) (f : ℕ) (name : List ℕ) → slice_get names f ≡ Some name → length (take f names) ≡ f
-long_front names f name is = length-take-le f names (let h = slice_get_within names f name is in omega arith)
+long_prefix : (names : List (List ℕ)) (f : ℕ) (name : List ℕ) → slice_get names f ≡ Some name → length (take f names) ≡ f
+long_prefix names f name is = length-take-le f names (let h = slice_get_within names f name is in omega arith)
 
 pub sources-append : (xs : List (List ℕ)) (k : ℕ) (ys : List (List ℕ)) → module_sources k (xs ++ ys) ≡ module_sources k xs ++ module_sources (k + length xs) ys
 sources-append [] k ys = let e : k ≡ k + 0 = omega arith in ap (λ n. module_sources n ys) e
@@ -113,7 +113,7 @@ sources-append (x ∷ xs) k ys =
 sources_at : (names : List (List ℕ)) (f : ℕ) (name : List ℕ) → slice_get names f ≡ Some name
     → module_sources 0 names ≡ (module_sources 0 (take f names) ++ source_of f name ∷ []) ++ module_sources (f + 1) (drop (f + 1) names)
 sources_at names f name is =
-    let long : 0 + length (take f names) ≡ f = omega (arith, long_front names f name is) in
+    let long : 0 + length (take f names) ≡ f = omega (arith, long_prefix names f name is) in
     ap (module_sources 0) (names_at names f name is)
     ∙ sources-append (take f names) 0 (name ∷ drop (f + 1) names)
     ∙ ap (λ n. module_sources 0 (take f names) ++ module_sources n (name ∷ drop (f + 1) names)) long
@@ -122,7 +122,7 @@ sources_at names f name is =
 sources_more : (names : List (List ℕ)) (f : ℕ) (name : List ℕ) → slice_get names f ≡ Some name
     → module_sources 0 (take (f + 1) names) ≡ module_sources 0 (take f names) ++ source_of f name ∷ []
 sources_more names f name is =
-    let long : 0 + length (take f names) ≡ f = omega (arith, long_front names f name is) in
+    let long : 0 + length (take f names) ≡ f = omega (arith, long_prefix names f name is) in
     ap (module_sources 0) (take_one names f name is) ∙ sources-append (take f names) 0 (name ∷ []) ∙ ap (λ n. module_sources 0 (take f names) ++ module_sources n (name ∷ [])) long
 
 pub opened_more : (names : List (List ℕ)) (f : ℕ) (name : List ℕ) (old mid new : Seen) → slice_get names f ≡ Some name → OpensAll (names_of (module_sources 0 (take f names))) old mid
@@ -154,7 +154,7 @@ pub read_more : (held : Option Held) (names : List (List ℕ)) (f : ℕ) (name :
     → IfSome held (λ h. AreModules h 0 (take (f + 1) names) (Ok now))
 read_more None names f name all m now is so one pushed = tt
 read_more (Some h) names f name all m now is so one pushed =
-    let long : f ≡ 0 + length (take f names) = omega (arith, long_front names f name is) in
+    let long : f ≡ 0 + length (take f names) = omega (arith, long_prefix names f name is) in
     subst (λ (xs : List Program). AreModules h 0 (take (f + 1) names) (Ok xs)) (sym pushed)
     (subst (λ ns. AreModules h 0 ns (Ok (all ++ m ∷ []))) (sym (take_one names f name is)) (modules_push h (take f names) 0 name all m f long so one))
 
@@ -162,7 +162,7 @@ stopped : (held : Option Held) (names : List (List ℕ)) (f : ℕ) (name : List 
     → IfSome held (λ h. AreModules h 0 (take f names) (Ok all)) → IfSome held (λ h. IsModule h f name (Err s) → AreModules h 0 names (Err s))
 stopped None names f name all s is so = tt
 stopped (Some h) names f name all s is so = λ one.
-    let long : f ≡ 0 + length (take f names) = omega (arith, long_front names f name is) in
+    let long : f ≡ 0 + length (take f names) = omega (arith, long_prefix names f name is) in
     subst (λ ns. AreModules h 0 ns (Err s)) (sym (names_at names f name is)) (modules_stop h (take f names) 0 name (drop (f + 1) names) all s f long so one)
 
 -- the file of a function ended the reading

@@ -14,7 +14,7 @@ use Rattle.trapeze_cli.specs.declared.halt.Halt.TheVariants.{NoMemory}
 use Rattle.trapeze_cli.specs.Runs.{Setting}
 use Rattle.trapeze_cli.specs.Playing.{AppendsBy, PlaysOn, said_of, text_from}
 use Rattle.trapeze_cli.proofs.Showing.{said-append, said_nothing}
-use Rattle.trapeze_cli.proofs.Fronts.{all_none, front_none, by_after, by_longer, by_halt}
+use Rattle.trapeze_cli.proofs.Prefixes.{all_none, prefix_none, by_after, by_longer, by_halt}
 
 -- the state that events leave
 abbrev pub state_after : Setting → State Thread → List Event → State Thread
@@ -61,7 +61,7 @@ plays_one g before now event lines result old new state gave p = record {
 
 -- out of memory, nothing was written
 pub plays_nothing : {A : Type 0} (g : Setting) (before now : State Thread → Type 0) (events : List Event) (old : Option (List ℕ)) → PlaysOn {A = A} g before now events (Err NoMemory) old old
-plays_nothing g before now events old = record { state = tt; lines = λ s is. front_none (text_from g s (items_of events)) old }
+plays_nothing g before now events old = record { state = tt; lines = λ s is. prefix_none (text_from g s (items_of events)) old }
 
 -- some events, and then others
 pub plays_both : {A B : Type 0} (g : Setting) (before mid now : State Thread → Type 0) (first second : List Event) (a : B) (result : Result A Halt) (old between new : Option (List ℕ))
@@ -72,7 +72,7 @@ plays_both g before mid now first second a result old between new p q = record {
       (by_after result (text_from g s (items_of first)) (text_from g (state_after g s first) (items_of second)) old between new (p.lines s is) (q.lines (state_after g s first) (p.state s is)));
 }
 
--- events that were not all played are the front of more events
+-- events that were not all played are a prefix of more events
 pub plays_longer : {A B : Type 0} (g : Setting) (before now later : State Thread → Type 0) (first second : List Event) (halt : Halt) (old new : Option (List ℕ))
     → PlaysOn {A = A} g before now first (Err halt) old new → PlaysOn {A = B} g before later (first ++ second) (Err halt) old new
 plays_longer {A = A} {B = B} g before now later first second halt old new p = record {

@@ -1,5 +1,5 @@
 -- From what a reader passed to what a status says of the file.
-use Rattle.std.proofs.Common.{◌≡◌, ℕ, ◌-◌, ◌<◌, ◌≤◌, List, [], ◌++◌, length, take, drop, None, Some, Result, Ok, Err, IfSome, refl, sym, ap, subst, ◌∙◌, append_assoc, append-nil, length-append, take-append-drop, arith}
+use Rattle.std.proofs.Common.{◌≡◌, ℕ, ◌-◌, ◌<◌, ◌≤◌, List, [], ◌++◌, length, take, drop, None, Some, Result, Ok, Err, IfSome, inl, inr, refl, sym, ap, subst, ◌∙◌, append_assoc, append-nil, length-append, take-append-drop, arith}
 use Rattle.std.specs.declared.option.Option.{Option}
 use Rattle.std.specs.Prelude.{IfOk}
 use Rattle.std.proofs.lemmas.List.{length-take, length-take-le, take-append-le}
@@ -8,7 +8,7 @@ use Rattle.std.specs.Io.KnownBytes.{append_known}
 use Rattle.trapeze_io.specs.Seen.{OpenFile, Gives, IsAtEnd}
 use Rattle.trapeze_io.proofs.Moved.{Gives-trans}
 use Rattle.wasm_semantics.specs.Threads.{Thread}
-use Rattle.event_file.specs.Script.{Entries, after}
+use Rattle.event_file.specs.Script.{Entries, after, entries_of}
 use Rattle.event_file.specs.Reader.{Reader, entries_with}
 use Rattle.event_file.specs.Heard.{heard}
 use Rattle.event_file.specs.declared.entry.Entry.{Entry}
@@ -24,13 +24,14 @@ use Rattle.trapeze_cli.specs.declared.status.Input.TheVariants as input
 use Rattle.trapeze_cli.specs.Played.{End, AtEnd, AtBad, PastLimit, Played, played_of, up_to, end_at, entry_events, events_of}
 use Rattle.trapeze_cli.specs.Runs.{Setting, lines_to, text_of, text_before, text_heard}
 use Rattle.trapeze_cli.specs.Command.{events_limit, piece, status_at}
-use Rattle.trapeze_cli.specs.Appends.{AppendsAll, AppendsFront, AppendsLess}
+use Rattle.trapeze_cli.specs.Appends.{AppendsAll, AppendsPrefix, AppendsLess}
+use Rattle.trapeze_cli.specs.Promises.{StopsAt}
 use Rattle.trapeze_cli.specs.Whys.{why}
 use Rattle.trapeze_cli.specs.Playing.{AppendsBy, said_of, lines_from, IsDry, Drains, Follows, file_in, played_in_file, texts_of, WritesOf, PlaysFile, status_of}
 use Rattle.trapeze_cli.proofs.Showing.{said-append}
-use Rattle.trapeze_cli.proofs.Fronts.{by_after, front_after, front_wider, less_after, less_wider}
+use Rattle.trapeze_cli.proofs.Prefixes.{by_after, prefix_after, prefix_wider, less_after, less_wider}
 use Rattle.trapeze_cli.proofs.Playing.{state_after, state_both, trace_both}
-use Rattle.trapeze_cli.proofs.Hearing.{Begins, heard_begins}
+use Rattle.trapeze_cli.proofs.Hearing.{Begins, heard_begins, heard_good}
 use Rattle.trapeze_cli.proofs.Following.{follows_passed, heard_dry, played_begins, played_bad, played_whole, played_past}
 
 -- the texts
@@ -70,7 +71,7 @@ text_starts g p first b = record { others = _; same = ap (λ es. text_of g (the 
     the : List Entry → Played
     the es = record { entries = es; end = p.end }
 
--- the text heard in a front of the bytes comes first
+-- the text heard in a prefix of the bytes comes first
 heard_starts : (g : Setting) (given : List ℕ) (n : ℕ) → Starts (text_heard g given) (text_heard g (take n given))
 heard_starts g given n =
     let b : Begins (heard g.known given).entries (heard g.known (take n given)).entries =
@@ -87,22 +88,32 @@ halt_writes A g r given last Write first second others old mid new is short hear
     let m = length r.given - piece in
     let fits : m ≤ length given = omega (arith, ap length is, length-append given last) in
     let same : take m r.given ≡ take m given = ap (take m) is ∙ take-append-le m given last fits in
-    let front : Starts (text_heard g given) (text_heard g (take m given)) = heard_starts g given m in
+    let prefix : Starts (text_heard g given) (text_heard g (take m given)) = heard_starts g given m in
     let before = text_heard g (take m given) in
-    let here : (first ++ []) ≡ before ++ front.others = append-nil first ∙ sym heard_is ∙ front.same in
+    let here : (first ++ []) ≡ before ++ prefix.others = append-nil first ∙ sym heard_is ∙ prefix.same in
     let part : AppendsLess (first ++ []) (first ++ second) old new = less_after first [] second old mid new w p in
     let wide : AppendsLess before ((first ++ second) ++ others) old new =
-    less_wider before front.others (first ++ second) others old new (subst (λ l. AppendsLess l (first ++ second) old new) here part) in
+    less_wider before prefix.others (first ++ second) others old new (subst (λ l. AppendsLess l (first ++ second) old new) here part) in
     subst (λ b. AppendsLess (text_heard g b) (text_of g (played_in_file g r)) old new) (sym same)
     (subst (λ t. AppendsLess before t old new) (sym all_is) wide)
 halt_writes A g r given last NoMemory first second others old mid new is short heard_is all_is w p =
-    let front : AppendsFront (first ++ []) (first ++ second) old new = front_after first [] second old mid new w p in
-    subst (λ t. AppendsFront [] t old new) (sym all_is) (front_wider [] (first ++ []) (first ++ second) others old new front)
+    let prefix : AppendsPrefix (first ++ []) (first ++ second) old new = prefix_after first [] second old mid new w p in
+    subst (λ t. AppendsPrefix [] t old new) (sym all_is) (prefix_wider [] (first ++ []) (first ++ second) others old new prefix)
 
 -- what was heard was written
 heard_text : (g : Setting) (given : List ℕ) (entries : List Entry) → heard g.known given ≡ record { entries = entries; bad = None }
     → text_heard g given ≡ text_before g entries
 heard_text g given entries h = ap (λ (e : Entries). text_before g e.entries) h
+
+-- no bad line is heard in the bytes given before the last piece
+before_last : (g : Setting) (r : OpenFile) (given last : List ℕ) → r.given ≡ given ++ last → length last ≤ piece → (heard g.known given).bad ≡ None
+    → (heard g.known (take (length r.given - piece) r.given)).bad ≡ None
+before_last g r given last is short good =
+    let m = length r.given - piece in
+    let fits : m ≤ length given = omega (arith, ap length is, length-append given last) in
+    let same : take m r.given ≡ take m given = ap (take m) is ∙ take-append-le m given last fits in
+    let all : (heard g.known (take m given ++ drop m given)).bad ≡ None = subst (λ bytes. (heard g.known bytes).bad ≡ None) (sym (take-append-drop m given)) good in
+    subst (λ bytes. (heard g.known bytes).bad ≡ None) (sym same) (heard_good g.known (take m given) (drop m given) all)
 
 -- a read failed
 pub answers_fault : (g : Setting) (r : OpenFile) (given : List ℕ) (entries : List Entry) (reader : Reader) (old new : Option (List ℕ))
@@ -114,20 +125,22 @@ answers_fault g r given entries reader old new is l f d w =
       tells = (refl, ap (λ (e : Entries). e.bad) h, omega (arith, l, ap length is));
       ended = λ e. cc;
       past = λ e. cc;
+      stopped = λ bad e. cc;
       writes = w ∙ ap (λ t. append_known old t) (sym (heard_text g r.given entries h));
     }
 
 -- a byte past the limit came
 pub answers_past : (g : Setting) (r : OpenFile) (given over : List ℕ) (entries : List Entry) (reader : Reader) (old new : Option (List ℕ))
-    → r.given ≡ given ++ over → length given ≡ events_limit → 0 < length over → Follows g.known given entries reader → IsDry reader
+    → r.given ≡ given ++ over → length given ≡ events_limit → length over ≡ 1 → Follows g.known given entries reader → IsDry reader
     → AppendsAll (text_before g entries) old new → PlaysFile g r (status.TooLong input.Events) old new
 answers_past g r given over entries reader old new is l o f d w =
     let sc : played_in_file g r ≡ record { entries = entries; end = PastLimit } =
-    ap (λ b. played_of events_limit g.known (b ++ r.rest)) is ∙ played_past events_limit g.known given over r.rest entries (heard_dry g.known given entries reader f d) l o in
+    ap (λ b. played_of events_limit g.known (b ++ r.rest)) is ∙ played_past events_limit g.known given over r.rest entries (heard_dry g.known given entries reader f d) l (omega (arith, o)) in
     record {
       tells = sym (ap (λ (x : Played). status_at x.end) sc);
       ended = λ e. cc;
       past = λ e. omega (arith, ap length is, length-append given over, l, o);
+      stopped = λ bad e. cc;
       writes = w ∙ ap (λ (x : Played). append_known old (text_of g x)) (sym sc);
     }
 
@@ -139,6 +152,7 @@ answers_want g r given last entries reader old new is l f w = record {
   tells = tt;
   ended = λ e. cc;
   past = λ e. cc;
+  stopped = λ bad e. cc;
   writes =
       let b = played_begins events_limit g.known given (last ++ r.rest) entries reader f l in
       let s = text_starts g (played_of events_limit g.known (given ++ (last ++ r.rest))) entries b in
@@ -164,6 +178,12 @@ answers_piece g r given last entries passed reader fed left (Ok (Some bad)) old 
       tells = sym (ap (λ (x : Played). status_at x.end) sc);
       ended = λ e. cc;
       past = λ e. cc;
+      stopped = λ other e.
+          let same : bad ≡ other = cc in
+          subst (λ (b : LineError). StopsAt g.known b r) same (record {
+            met = inl (ap (λ (e : Entries). e.bad) (ap (heard g.known) (is ∙ sym (append-nil (given ++ last))) ∙ f2.counted [] ∙ ap (after entries) (dr.counted [])));
+            before = before_last g r given last is short (ap (λ (e : Entries). e.bad) (heard_dry g.known given entries reader f d));
+          });
       writes = subst (λ t. AppendsAll t old new) (sym t) (by_after (Ok (Some bad)) (text_before g entries) second old mid new w p);
     }
 answers_piece g r given last entries passed reader fed left (Err halt) old mid new is short l f d f2 dr w p more =
@@ -182,12 +202,14 @@ answers_piece g r given last entries passed reader fed left (Err halt) old mid n
       tells = tt;
       ended = λ e. cc;
       past = λ e. cc;
+      stopped = λ bad e. cc;
       writes = w;
     }
     of_halt g r NoMemory old new w = record {
       tells = tt;
       ended = λ e. cc;
       past = λ e. cc;
+      stopped = λ bad e. cc;
       writes = w;
     }
 
@@ -205,33 +227,43 @@ answers_end g r given entries reader result old mid new is none l f d w ends p =
     let first = text_before g entries in
     let second = said_of g (lines_from g (end_at AtEnd rest.bad) (state_after g (start []) (events_of entries)) (events_of rest.entries)) in
     let all : text_of g (played_in_file g r) ≡ first ++ second = ap (text_of g) sc ∙ text_after g (end_at AtEnd rest.bad) entries rest.entries in
-    by_result result first second all rest.bad (ap (λ (x : Played). x.end) sc) ends p
+    by_result result first second all rest.bad (ap (λ (x : Played). x.end) sc)
+    (ap (λ (e : Entries). e.bad) (ap (entries_of g.known) (is ∙ sym (append-nil given)) ∙ f.all [])) ends p
     (heard_text g given entries (heard_dry g.known given entries reader f d)) w
   where
     by_result : (result : Result (Option LineError) Halt) (first second : List ℕ) → text_of g (played_in_file g r) ≡ first ++ second → (bad : Option LineError) → (played_in_file g r).end ≡ end_at AtEnd bad
-        → IfOk result (λ b. bad ≡ b) → AppendsBy result second mid new → text_heard g given ≡ first → AppendsAll first old mid → PlaysFile g r (status_of result) old new
-    by_result (Ok None) first second all bad end ends p h w = record {
+        → (entries_of g.known r.given).bad ≡ bad → IfOk result (λ b. bad ≡ b) → AppendsBy result second mid new → text_heard g given ≡ first → AppendsAll first old mid → PlaysFile g r (status_of result) old new
+    by_result (Ok None) first second all bad end read ends p h w = record {
       tells = sym (ap status_at (end ∙ ap (end_at AtEnd) ends));
       ended = λ e. none;
       past = λ e. cc;
+      stopped = λ bad e. cc;
       writes = subst (λ t. AppendsAll t old new) (sym all) (by_after (Ok first) first second old mid new w p);
     }
-    by_result (Ok (Some b)) first second all bad end ends p h w = record {
+    by_result (Ok (Some b)) first second all bad end read ends p h w = record {
       tells = sym (ap status_at (end ∙ ap (end_at AtEnd) ends));
       ended = λ e. cc;
       past = λ e. cc;
+      stopped = λ other e.
+          let same : b ≡ other = cc in
+          subst (λ (x : LineError). StopsAt g.known x r) same (record {
+            met = inr (none, read ∙ ends);
+            before = before_last g r given [] (is ∙ sym (append-nil given)) (omega arith) (ap (λ (e : Entries). e.bad) (heard_dry g.known given entries reader f d));
+          });
       writes = subst (λ t. AppendsAll t old new) (sym all) (by_after (Ok first) first second old mid new w p);
     }
-    by_result (Err Write) first second all bad end ends p h w = record {
+    by_result (Err Write) first second all bad end read ends p h w = record {
       tells = tt;
       ended = λ e. cc;
       past = λ e. cc;
+      stopped = λ bad e. cc;
       writes = halt_writes (Option LineError) g r given [] Write first second [] old mid new (is ∙ sym (append-nil given)) (omega arith) h (all ∙ sym (append-nil (first ++ second))) w p;
     }
-    by_result (Err NoMemory) first second all bad end ends p h w = record {
+    by_result (Err NoMemory) first second all bad end read ends p h w = record {
       tells = tt;
       ended = λ e. cc;
       past = λ e. cc;
+      stopped = λ bad e. cc;
       writes = halt_writes (Option LineError) g r given [] NoMemory first second [] old mid new (is ∙ sym (append-nil given)) (omega arith) h (all ∙ sym (append-nil (first ++ second))) w p;
     }
 
@@ -249,7 +281,7 @@ told_end None (Some r) given is g e k = absurd g
 told_end (Some o) None given is g e k = absurd g
 told_end (Some o) (Some r) given is g e k = k r (g.1 ∙ ap (λ b. b ++ given) is) e
 
--- a piece that was read into the front of a buffer
+-- a piece that was read into the first bytes of a buffer
 
 pub room_long : (room : ℕ) (buf buffer : List ℕ) → length buf ≡ length (take room buffer) → length buffer ≡ 65536 → room ≤ 65536 → length buf ≡ room
 room_long room buf buffer same long fits = omega (arith, same, length-take room buffer)

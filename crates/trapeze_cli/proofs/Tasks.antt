@@ -3,7 +3,7 @@ use Rattle.std.proofs.Common.{◌≡◌, ℕ, ◌+◌, List, [], ◌∷◌, Some
 use Rattle.std.specs.declared.option.Option.{Option}
 use Rattle.std.specs.Prelude.{IsOk}
 use Rattle.trapeze_io.specs.Seen.{Held}
-use Rattle.policy_toml.specs.PolicyOf.{Written}
+use Rattle.policy_toml.specs.Parts.{Parts}
 use Rattle.wasm_ast.specs.declared.modules.Module.{Module as Program}
 use Rattle.wasm_ast.specs.Faults.{Fault}
 use Rattle.wasm_ast.specs.Faults as fault
@@ -20,7 +20,7 @@ use Rattle.trapeze_cli.specs.declared.status.Input.TheVariants.{Module as module
 use Rattle.trapeze_cli.specs.declared.status.ModuleFault.{ModuleFault}
 use Rattle.trapeze_cli.specs.declared.status.ModuleFault.TheVariants.{Decode, Invalid}
 use Rattle.trapeze_cli.specs.Forms.{Form, policy_name, Command, Exercise, OnFiles}
-use Rattle.trapeze_cli.specs.Command.{module_limit, file_of, policy_in, files_under, shown_in, IsFaulty, IsModule, AreModules, Prepared, IsPrepared, Task, task_under, IsTaskUnder, IsTaskBy, IsTask, Answer, IsAnswer, answer_of}
+use Rattle.trapeze_cli.specs.Command.{module_limit, file_of, policy_in, shown_in, IsFaulty, IsModule, AreModules, Prepared, IsPrepared, Task, task_under, IsTaskUnder, IsTaskBy, IsTask, Answer, IsAnswer, answer_of}
 
 ok_one : {X : Type 0} (r : Result X Status) (a b : X) → r ≡ Ok a → r ≡ Ok b → a ≡ b
 ok_one {X = X} r a b p q = let e : ◌≡◌ {A = Result X Status} (Ok a) (Ok b) = sym p ∙ q in cc
@@ -110,7 +110,7 @@ module _ (held : Held) where
   one_modules (name ∷ names) f (Err s) (Err t) (inr p) (inl d) = differ p.0 t (one_module f name (Ok p.0) (Err t) p.1 d)
   one_modules (name ∷ names) f (Err s) (Err t) (inr p) (inr w) = one_modules names (f + 1) (Err s) (Err t) p.2 w.2
 
-  module _ (form : Form) (policy : Written) where
+  module _ (form : Form) (policy : Parts) where
     -- a reading that gave something did not end
     never : {X P : Type 0} (r : Result X Status) (s : Status) → r ≡ Err s → IsOk r → P
     never (Ok x) s e ok = absurd cc
@@ -118,17 +118,17 @@ module _ (held : Held) where
 
     one_ready : (r q : Result Prepared Status) → IsPrepared held form policy r → IsPrepared held form policy q → r ≡ q
     one_ready (Ok a) (Ok b) p w =
-        let shown : a.shown ≡ b.shown = ok_one (shown_in policy.names form) a.shown b.shown p.0 w.0 in
-        let modules : a.modules ≡ b.modules = let e = one_modules (files_under policy) 0 (Ok a.modules) (Ok b.modules) p.1 w.1 in cc in
+        let shown : a.shown ≡ b.shown = ok_one (shown_in policy.lattice.names form) a.shown b.shown p.0 w.0 in
+        let modules : a.modules ≡ b.modules = let e = one_modules policy.files 0 (Ok a.modules) (Ok b.modules) p.1 w.1 in cc in
         ap (λ x. Ok (record { shown = x; modules = a.modules })) shown ∙ ap (λ x. Ok (record { shown = b.shown; modules = x })) modules
-    one_ready (Ok a) (Err s) p (inl e) = ok_or_err (shown_in policy.names form) a.shown s p.0 e
-    one_ready (Ok a) (Err s) p (inr w) = differ a.modules s (one_modules (files_under policy) 0 (Ok a.modules) (Err s) p.1 w.1)
-    one_ready (Err s) (Ok b) (inl e) w = ok_or_err (shown_in policy.names form) b.shown s w.0 e
-    one_ready (Err s) (Ok b) (inr p) w = differ b.modules s (one_modules (files_under policy) 0 (Ok b.modules) (Err s) w.1 p.1)
-    one_ready (Err s) (Err t) (inl e) (inl d) = err_one (shown_in policy.names form) s t e d
-    one_ready (Err s) (Err t) (inl e) (inr w) = never (shown_in policy.names form) s e w.0
-    one_ready (Err s) (Err t) (inr p) (inl d) = never (shown_in policy.names form) t d p.0
-    one_ready (Err s) (Err t) (inr p) (inr w) = let same : s ≡ t = let k = one_modules (files_under policy) 0 (Err s) (Err t) p.1 w.1 in cc in ap Err same
+    one_ready (Ok a) (Err s) p (inl e) = ok_or_err (shown_in policy.lattice.names form) a.shown s p.0 e
+    one_ready (Ok a) (Err s) p (inr w) = differ a.modules s (one_modules policy.files 0 (Ok a.modules) (Err s) p.1 w.1)
+    one_ready (Err s) (Ok b) (inl e) w = ok_or_err (shown_in policy.lattice.names form) b.shown s w.0 e
+    one_ready (Err s) (Ok b) (inr p) w = differ b.modules s (one_modules policy.files 0 (Ok b.modules) (Err s) w.1 p.1)
+    one_ready (Err s) (Err t) (inl e) (inl d) = err_one (shown_in policy.lattice.names form) s t e d
+    one_ready (Err s) (Err t) (inl e) (inr w) = never (shown_in policy.lattice.names form) s e w.0
+    one_ready (Err s) (Err t) (inr p) (inl d) = never (shown_in policy.lattice.names form) t d p.0
+    one_ready (Err s) (Err t) (inr p) (inr w) = let same : s ≡ t = let k = one_modules policy.files 0 (Err s) (Err t) p.1 w.1 in cc in ap Err same
 
     pub one_task_under : (r q : Result Task Status) → IsTaskUnder held form policy r → IsTaskUnder held form policy q → r ≡ q
     one_task_under (Ok a) (Ok b) (x, p, is) (y, w, are) =
@@ -138,7 +138,7 @@ module _ (held : Held) where
     one_task_under (Err s) (Ok b) p (y, w, are) = differ y s (one_ready (Ok y) (Err s) w p)
     one_task_under (Err s) (Err t) p w = let same : s ≡ t = let k = one_ready (Err s) (Err t) p w in cc in ap Err same
 
-  one_task_by : (form : Form) (read : Result Written Status) (r q : Result Task Status) → IsTaskBy held form read r → IsTaskBy held form read q → r ≡ q
+  one_task_by : (form : Form) (read : Result Parts Status) (r q : Result Task Status) → IsTaskBy held form read r → IsTaskBy held form read q → r ≡ q
   one_task_by form (Ok policy) r q p w = one_task_under form policy r q p w
   one_task_by form (Err s) r q p w = p ∙ sym w
 

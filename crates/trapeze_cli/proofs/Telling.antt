@@ -26,7 +26,7 @@ use Rattle.trapeze_cli.specs.Shows.{shows}
 use Rattle.trapeze_cli.specs.Appends.{AppendsAll, AppendsLess}
 use Rattle.trapeze_cli.specs.Playing.{AppendsBy, PlaysOn, said_of}
 use Rattle.trapeze_cli.proofs.Showing.{shown_filter}
-use Rattle.trapeze_cli.proofs.Fronts.{less_of}
+use Rattle.trapeze_cli.proofs.Prefixes.{less_of}
 use Rattle.trapeze_cli.proofs.Playing.{plays_one}
 
 -- the text of the lines that pass the test is that of those that are shown

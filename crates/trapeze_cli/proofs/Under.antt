@@ -6,14 +6,13 @@ use Rattle.trapeze_io.specs.Seen.{Seen, Held, OpenFile, OpensOne, OpensAll}
 use Rattle.trapeze_io.proofs.Opens.{OpensAll-append, OpensAll-one, OpensAll-faults}
 use Rattle.label_lattice.specs.Order.{Order, count, place_of}
 use Rattle.policy_toml.specs.Parts.{Parts}
-use Rattle.policy_toml.specs.PolicyOf.{Written, IsAsWritten}
 use Rattle.wasm_ast.specs.declared.modules.Module.{Module as Program}
 use Rattle.trapeze_cli.specs.declared.shown.Shown.{Shown}
 use Rattle.trapeze_cli.specs.declared.status.Status.{Status}
 use Rattle.trapeze_cli.specs.declared.status.Status.TheVariants as status
 use Rattle.trapeze_cli.specs.declared.status.Input.{Input}
 use Rattle.trapeze_cli.specs.declared.status.Input.TheVariants as inputs
-use Rattle.trapeze_cli.specs.Command.{AreModules, IsPrepared, Plays, Says, IsTaskUnder, task_under, check_text, files_under, shown_in, shown_to, setting_under}
+use Rattle.trapeze_cli.specs.Command.{AreModules, IsPrepared, Plays, Says, IsTaskUnder, task_under, check_text, shown_in, shown_to}
 use Rattle.trapeze_cli.specs.Ends.{IsFileOf, SaysText}
 use Rattle.trapeze_cli.specs.Forms.{Form, Check, Play, OnFiles, Show, Run, Trace, View, Source, module_sources, event_sources, sources_of, policy_name}
 use Rattle.trapeze_cli.specs.Opens.{names_of, IsLast, OpensTo, IsReachedUnder}
@@ -24,7 +23,6 @@ use Rattle.trapeze_cli.specs.Steps.{FaultsRose, Ends, IsReachedModule}
 use Rattle.trapeze_cli.specs.Whys.{why, IfReadFailed}
 use Rattle.trapeze_cli.proofs.Refusals.{IfSome-map}
 use Rattle.trapeze_cli.proofs.StepsInTurn.{names-append, opens_first, opens_later, last_more}
-use Rattle.trapeze_cli.proofs.Written.{setting_same, check_same}
 
 -- what is shown
 
@@ -50,58 +48,39 @@ shown_told form order parts result same is = sym (is ∙ ap (λ (o : Order). sho
 
 -- what was read says a task
 
-module _ (form : Form) (w : Written) (parts : Parts) (as_written : IsAsWritten w parts) where
-  shown_under : (r : Result Shown Status) → shown_in parts.lattice.names form ≡ r → shown_in w.names form ≡ r
-  shown_under r is = ap (λ names. shown_in names form) (sym as_written.lattice.same) ∙ is
-
-  modules_under : (h : Held) (r : Result (List Program) Status) → AreModules h 0 parts.files r → AreModules h 0 (files_under w) r
-  modules_under h r are = subst (λ (files : List (List ℕ)). AreModules h 0 files r) as_written.files are
-
-  pub unshown_task : (s : Status) → shown_in parts.lattice.names form ≡ Err s → (h : Held) → IsTaskUnder h form w (Err s)
-  unshown_task s is h = inl (shown_under (Err s) is)
+module _ (form : Form) (parts : Parts) where
+  pub unshown_task : (s : Status) → shown_in parts.lattice.names form ≡ Err s → (h : Held) → IsTaskUnder h form parts (Err s)
+  unshown_task s is h = inl is
 
   ok_of : {X : Type 0} (r : Result X Status) (x : X) → r ≡ Ok x → IsOk r
   ok_of (Ok y) x is = refl
   ok_of (Err s) x is = absurd (cc)
 
-  pub unread_task : (shown : Shown) (s : Status) → shown_in parts.lattice.names form ≡ Ok shown → (h : Held) → AreModules h 0 parts.files (Err s) → IsTaskUnder h form w (Err s)
-  unread_task shown s is h are = inr (ok_of (shown_in w.names form) shown (shown_under (Ok shown) is), modules_under h (Err s) are)
-
-  pub ready_under : (shown : Shown) (modules : List Program) → shown_in parts.lattice.names form ≡ Ok shown → (h : Held) → AreModules h 0 parts.files (Ok modules)
-      → IsPrepared h form w (Ok (record { shown = shown; modules = modules }))
-  ready_under shown modules is h are = (shown_under (Ok shown) is, modules_under h (Ok modules) are)
+  pub unread_task : (shown : Shown) (s : Status) → shown_in parts.lattice.names form ≡ Ok shown → (h : Held) → AreModules h 0 parts.files (Err s) → IsTaskUnder h form parts (Err s)
+  unread_task shown s is h are = inr (ok_of (shown_in parts.lattice.names form) shown is, are)
 
   pub check_task : (name : List ℕ) (shown : Shown) (modules : List Program) → form ≡ Check name → shown_in parts.lattice.names form ≡ Ok shown → (h : Held) → AreModules h 0 parts.files (Ok modules)
-      → IsTaskUnder h form w (Ok (Says (check_text (count parts.lattice) (length parts.functions) (length parts.channels) (length parts.clients))))
+      → IsTaskUnder h form parts (Ok (Says (check_text (count parts.lattice) (length parts.functions) (length parts.channels) (length parts.clients))))
   check_task name shown modules of is h are =
-      (record { shown = shown; modules = modules }, ready_under shown modules is h are, ap Says (check_same w parts as_written) ∙ by form of)
-    where
-      by : (form : Form) → form ≡ Check name → Says (check_text (length w.names) (length w.functions) (length w.channels) (length w.clients)) ≡ task_under form w (record { shown = shown; modules = modules })
-      by (Check n) of = refl
-      by (Play show n events) of = absurd (cc)
+      (record { shown = shown; modules = modules }, (is, are), sym (ap (λ f. task_under f parts (record { shown = shown; modules = modules })) of))
 
   pub play_task : (show : Show) (name events : List ℕ) (shown : Shown) (modules : List Program) → form ≡ Play show name events → shown_in parts.lattice.names form ≡ Ok shown
-      → (h : Held) → AreModules h 0 parts.files (Ok modules) → IsTaskUnder h form w (Ok (Plays (setting_under w (record { shown = shown; modules = modules })) events))
+      → (h : Held) → AreModules h 0 parts.files (Ok modules) → IsTaskUnder h form parts (Ok (Plays (setting_of parts modules shown) events))
   play_task show name events shown modules of is h are =
-      (record { shown = shown; modules = modules }, ready_under shown modules is h are, sym (ap (λ f. task_under f w (record { shown = shown; modules = modules })) of))
+      (record { shown = shown; modules = modules }, (is, are), sym (ap (λ f. task_under f parts (record { shown = shown; modules = modules })) of))
 
   -- the module of a function was reached, or the event file
-  pub reached_module : (shown : Shown) (s : Status) → shown_in parts.lattice.names form ≡ Ok shown → (h : Held) (input : Input) → IsReachedModule h parts.files input → IsReachedUnder h form w input
+  pub reached_module : (shown : Shown) (s : Status) → shown_in parts.lattice.names form ≡ Ok shown → (h : Held) (input : Input) → IsReachedModule h parts.files input → IsReachedUnder h form parts input
   reached_module shown s is h input r =
-      let files : parts.files ≡ files_under w = as_written.files in
-      subst (λ (i : Input). IsReachedUnder h form w i) (sym r.is_input) (
-        ok_of (shown_in w.names form) shown (shown_under (Ok shown) is),
-        subst (λ (names : List (List ℕ)). r.function < length names) files r.few,
-        (r.programs, subst (λ (names : List (List ℕ)). AreModules h 0 (take r.function names) (Ok r.programs)) files r.before),
-      )
+      subst (λ (i : Input). IsReachedUnder h form parts i) (sym r.is_input) (ok_of (shown_in parts.lattice.names form) shown is, r.few, (r.programs, r.before))
 
   pub reached_events : (shown : Shown) (modules : List Program) (held : Option Held) (s : Status) → shown_in parts.lattice.names form ≡ Ok shown → IfSome held (λ h. AreModules h 0 parts.files (Ok modules)) → IsOfPlay s (why s)
-      → IfReadFailed (why s) (λ input. IfSome held (λ h. IsReachedUnder h form w input))
+      → IfReadFailed (why s) (λ input. IfSome held (λ h. IsReachedUnder h form parts input))
   reached_events shown modules held s is are of = by s of
     where
-      by : (s : Status) → IsOfPlay s (why s) → IfReadFailed (why s) (λ input. IfSome held (λ h. IsReachedUnder h form w input))
+      by : (s : Status) → IsOfPlay s (why s) → IfReadFailed (why s) (λ input. IfSome held (λ h. IsReachedUnder h form parts input))
       by (status.ReadFault i) of =
-          IfSome-map held (λ h k. subst (λ (x : Input). IsReachedUnder h form w x) (sym of) (record { shown = shown; modules = modules }, ready_under shown modules is h k)) are
+          IfSome-map held (λ h k. subst (λ (x : Input). IsReachedUnder h form parts x) (sym of) (record { shown = shown; modules = modules }, is, k)) are
       by status.Done of = tt
       by status.Usage of = tt
       by (status.Policy fault) of = tt
@@ -266,12 +245,6 @@ reads_all g (Some h) name (Some r) s old new is a (inr fault) = absurd (other (s
 pub read_events : (form : Form) (show : Show) (name events : List ℕ) (held : Option Held) (current : Option OpenFile) → form ≡ Play show name events → ReadsAll held events current
     → ReadsEvents (Some form) held current
 read_events form show name events held current of all = subst (λ (f : Form). ReadsEvents (Some f) held current) (sym of) all
-
--- the setting of the parts that were read is the one that is written
-pub answers_under : (w : Written) (parts : Parts) (as_written : IsAsWritten w parts) (modules : List Program) (shown : Shown) (current : Option OpenFile) (s : Status) (old new : Option (List ℕ))
-    → IfSome current (λ r. PlaysFile (setting_of parts modules shown) r s old new) → IfSome current (λ r. PlaysFile (setting_under w (record { shown = shown; modules = modules })) r s old new)
-answers_under w parts as_written modules shown current s old new a =
-    IfSome-map current (λ r k. subst (λ (g : Setting). PlaysFile g r s old new) (setting_same w parts as_written modules shown) k) a
 
 -- the file is held under its name still
 pub file_later : (old mid : Option Held) (name : List ℕ) (current : Option OpenFile) (s : Status) → mid ≡ old → IsFileOf mid name current s → IsFileOf old name current s

@@ -6,7 +6,6 @@ use Rattle.std.proofs.lemmas.List.{length-map}
 use Rattle.trapeze_io.specs.Seen.{Seen, Held, OpenFile, OpensOne, OpensAll, AddsUp}
 use Rattle.trapeze_io.proofs.Opens.{adds_up}
 use Rattle.policy_toml.specs.Parts.{Parts}
-use Rattle.policy_toml.specs.PolicyOf.{Written, IsAsWritten}
 use Rattle.trapeze_cli.specs.declared.status.Status.{Status}
 use Rattle.trapeze_cli.specs.declared.status.Status.TheVariants as status
 use Rattle.trapeze_cli.specs.declared.status.Input.{Input}
@@ -14,8 +13,8 @@ use Rattle.trapeze_cli.specs.declared.status.Input.TheVariants as inputs
 use Rattle.trapeze_cli.specs.Command.{policy_in, Task, IsTaskUnder, IsTaskBy, IsTask}
 use Rattle.trapeze_cli.specs.Forms.{Form, Check, Play, Command, OnFiles, on_files, policy_name, events_name, file_name, Source, module_sources, event_sources, sources_of}
 use Rattle.trapeze_cli.specs.Opens.{names_of, IsLast, OpensTo, files_by, files_in, AreFiles, Opened, opens_before, FailsToRead, IsReachedUnder, IsReached}
-use Rattle.trapeze_cli.specs.Promises.{OfTask, IsPrivateIn, IsClean, ReadsEvents}
-use Rattle.trapeze_cli.specs.Steps.{HasReason, FaultsRose, Ends, ReadsPolicy, CallEnds}
+use Rattle.trapeze_cli.specs.Promises.{OfTask, IsPrivateIn, IsClean, IsStopped, ReadsEvents}
+use Rattle.trapeze_cli.specs.Steps.{HasReason, FaultsRose, Ends, CallEnds}
 use Rattle.trapeze_cli.specs.Whys.{Why, Finished, Refused, ReadFailed, WriteFailed, OutOfMemory, why, given_of, IsAnswered, Writes, IfReadFailed}
 use Rattle.trapeze_cli.proofs.Refusals.{IfSome-map, IfSome-all}
 use Rattle.trapeze_cli.proofs.StepsInTurn.{names-append, opens_first, last_more}
@@ -61,10 +60,11 @@ module _ (a b : Held → Result Task Status → Type 0) where
     written = writes_map held (given_of current) (why s) old new same o.written;
     private = λ e. of_task_map (λ h task. IsPrivateIn h task s old new) held same (o.private e);
     clean = λ e. of_task_map (λ h task. IsClean (given_of current) task) held same (o.clean e);
+    stopped = λ bad e. of_task_map (λ h task. IsStopped current bad task) held same (o.stopped bad e);
   }
 
-same_by : (form : Form) (h : Held) (w : Written) (read : Result Written Status) → read ≡ Ok w → AreSame (IsTaskUnder h form w) (IsTaskBy h form read)
-same_by form h w read is = subst (λ (r : Result Written Status). AreSame (IsTaskUnder h form w) (IsTaskBy h form r)) (sym is) (record { there = λ t k. k; back = λ t k. k })
+same_by : (form : Form) (h : Held) (parts : Parts) (read : Result Parts Status) → read ≡ Ok parts → AreSame (IsTaskUnder h form parts) (IsTaskBy h form read)
+same_by form h parts read is = subst (λ (r : Result Parts Status). AreSame (IsTaskUnder h form parts) (IsTaskBy h form r)) (sym is) (record { there = λ t k. k; back = λ t k. k })
 
 pub one_opened : (old new : Seen) (name : List ℕ) → OpensAll (name ∷ []) old new → OpensOne old name new
 one_opened old new name (between, one, same) = subst (λ (seen : Seen). OpensOne old name seen) (sym same) one
@@ -84,59 +84,38 @@ module _ (words : Option Command) (form : Form) (of : Some (OnFiles form) ≡ wo
   tasks_are h = ap (λ n. IsTaskBy h form (policy_in h n)) named ∙ ap (λ c. IsTask c h) of
 
   -- the policy was read
-  module _ (parts : Parts) (old mid : Seen) (one : OpensOne old name mid) (reads : IfSome old.held (λ h. ReadsPolicy (policy_in h name) parts)) where
+  module _ (parts : Parts) (old mid : Seen) (one : OpensOne old name mid) (reads : IfSome old.held (λ h. policy_in h name ≡ Ok parts)) where
     one_named : OpensOne old (policy_name form) mid
     one_named = subst (λ n. OpensOne old n mid) named one
 
-    pub outcome_read : (some : (w : Written) × IsAsWritten w parts) (current : Option OpenFile) (s : Status) (out out_now : Option (List ℕ))
-        → ((w : Written) → IsAsWritten w parts → CallEnds (λ h t. IsTaskUnder h form w t) mid.held current s out out_now) → CallEnds (IsTask words) old.held current s out out_now
-    outcome_read some current s out out_now k = by old.held reads one.held
-      where
-        by : (held : Option Held) → IfSome held (λ h. ReadsPolicy (policy_in h name) parts) → mid.held ≡ held → CallEnds (IsTask words) held current s out out_now
-        by None reads same =
-            outcome_map (λ h t. IsTaskUnder h form some.0 t) (IsTask words) None current s out out_now tt
-            (subst (λ (o : Option Held). CallEnds (λ h t. IsTaskUnder h form some.0 t) o current s out out_now) same (k some.0 some.1))
-        by (Some h) reads same =
-            outcome_map (λ h t. IsTaskUnder h form reads.written t) (IsTask words) (Some h) current s out out_now
-            (subst (λ (b : Result Task Status → Type 0). AreSame (IsTaskUnder h form reads.written) b) (tasks_are h) (same_by form h reads.written (policy_in h name) reads.accepted))
-            (subst (λ (o : Option Held). CallEnds (λ h t. IsTaskUnder h form reads.written t) o current s out out_now) same (k reads.written reads.as_written))
+    pub outcome_read : (current : Option OpenFile) (s : Status) (out out_now : Option (List ℕ))
+        → CallEnds (λ h t. IsTaskUnder h form parts t) mid.held current s out out_now → CallEnds (IsTask words) old.held current s out out_now
+    outcome_read current s out out_now k =
+        outcome_map (λ h t. IsTaskUnder h form parts t) (IsTask words) old.held current s out out_now
+        (IfSome-map old.held (λ h is. subst (λ (b : Result Task Status → Type 0). AreSame (IsTaskUnder h form parts) b) (tasks_are h) (same_by form h parts (policy_in h name) is)) reads)
+        (subst (λ (o : Option Held). CallEnds (λ h t. IsTaskUnder h form parts t) o current s out out_now) one.held k)
 
     pub files_read : AreFiles old.held form parts.files
-    files_read = IfSome-map old.held (λ h r. r.as_written.files ∙ ap files_by (sym r.accepted) ∙ ap (λ n. files_by (policy_in h n)) named) reads
+    files_read = IfSome-map old.held (λ h is. ap files_by (sym is) ∙ ap (λ n. files_by (policy_in h n)) named) reads
 
     pub opened_read : (s : Status) (new : Seen) → ((before : Seen) → OpensOne before (policy_name form) mid → OpensTo (sources_of form parts.files) s before new) → Opened (on_files words) s old new
     opened_read s new k = subst (λ (f : Option Form). Opened f s old new) (ap on_files of) (record { files = parts.files; of_policy = files_read; opens = k old one_named })
 
-    reached_by : (h : Held) (read : Result Written Status) (w : Written) (input : Input) → read ≡ Ok w → IsReachedUnder h form w input → IsOkAnd read (λ policy. IsReachedUnder h form policy input)
-    reached_by h read w input is r = subst (λ (x : Result Written Status). IsOkAnd x (λ policy. IsReachedUnder h form policy input)) (sym is) r
+    reached_by : (h : Held) (read : Result Parts Status) (input : Input) → read ≡ Ok parts → IsReachedUnder h form parts input → IsOkAnd read (λ policy. IsReachedUnder h form policy input)
+    reached_by h read input is r = subst (λ (x : Result Parts Status). IsOkAnd x (λ policy. IsReachedUnder h form policy input)) (sym is) r
 
-    reached_form : (h : Held) (w : Written) (input : Input) → policy_in h name ≡ Ok w → IsReachedUnder h form w input → IsReached (Some form) h input
-    reached_form h w inputs.Policy is r = tt
-    reached_form h w (inputs.Module f) is r = reached_by h (policy_in h (policy_name form)) w (inputs.Module f) (ap (policy_in h) (sym named) ∙ is) r
-    reached_form h w inputs.Events is r = reached_by h (policy_in h (policy_name form)) w inputs.Events (ap (policy_in h) (sym named) ∙ is) r
+    reached_form : (h : Held) (input : Input) → policy_in h name ≡ Ok parts → IsReachedUnder h form parts input → IsReached (Some form) h input
+    reached_form h inputs.Policy is r = tt
+    reached_form h (inputs.Module f) is r = reached_by h (policy_in h (policy_name form)) (inputs.Module f) (ap (policy_in h) (sym named) ∙ is) r
+    reached_form h inputs.Events is r = reached_by h (policy_in h (policy_name form)) inputs.Events (ap (policy_in h) (sym named) ∙ is) r
 
-    pub reached_read : (s : Status) → ((w : Written) → IsAsWritten w parts → IfReadFailed (why s) (λ input. IfSome mid.held (λ h. IsReachedUnder h form w input)))
+    pub reached_read : (s : Status) → IfReadFailed (why s) (λ input. IfSome mid.held (λ h. IsReachedUnder h form parts input))
         → IfReadFailed (why s) (λ input. IfSome old.held (λ h. IsReached (on_files words) h input))
-    reached_read s k = by old.held reads one.held
+    reached_read s k = failed_map s (λ input r. by input old.held reads (subst (λ (o : Option Held). IfSome o (λ h. IsReachedUnder h form parts input)) one.held r)) k
       where
-        by : (held : Option Held) → IfSome held (λ h. ReadsPolicy (policy_in h name) parts) → mid.held ≡ held → IfReadFailed (why s) (λ input. IfSome held (λ h. IsReached (on_files words) h input))
-        by None reads same = all s
-          where
-            all : (s : Status) → IfReadFailed (why s) (λ input. Unit {0})
-            all (status.ReadFault i) = tt
-            all status.Done = tt
-            all status.Usage = tt
-            all (status.Policy fault) = tt
-            all (status.Module f fault) = tt
-            all (status.Events bad) = tt
-            all status.WriteFault = tt
-            all status.NoMemory = tt
-            all (status.TooLong inputs.Policy) = tt
-            all (status.TooLong (inputs.Module f)) = tt
-            all (status.TooLong inputs.Events) = tt
-        by (Some h) reads same =
-            failed_map s (λ input r. subst (λ (f : Option Form). IsReached f h input) (ap on_files of) (reached_form h reads.written input reads.accepted (subst (λ (o : Option Held). IfSome o (λ h. IsReachedUnder h form reads.written input)) same r)))
-            (k reads.written reads.as_written)
+        by : (input : Input) (held : Option Held) → IfSome held (λ h. policy_in h name ≡ Ok parts) → IfSome held (λ h. IsReachedUnder h form parts input) → IfSome held (λ h. IsReached (on_files words) h input)
+        by input None is r = tt
+        by input (Some h) is r = subst (λ (f : Option Form). IsReached f h input) (ap on_files of) (reached_form h input is r)
 
     pub events_read : (current : Option OpenFile) → ReadsEvents (Some form) mid.held current → ReadsEvents (on_files words) old.held current
     events_read current k = subst (λ (f : Option Form). ReadsEvents f old.held current) (ap on_files of) (subst (λ (o : Option Held). ReadsEvents (Some form) o current) one.held k)
@@ -157,7 +136,7 @@ module _ (words : Option Command) (form : Form) (of : Some (OnFiles form) ≡ wo
         other e = cc
 
     refused_by : (h : Held) → policy_in h name ≡ Err s → IsTask words h (Err s)
-    refused_by h is = subst (λ (b : Result Task Status → Type 0). b (Err s)) (tasks_are h) (subst (λ (r : Result Written Status). IsTaskBy h form r (Err s)) (sym is) refl)
+    refused_by h is = subst (λ (b : Result Task Status → Type 0). b (Err s)) (tasks_are h) (subst (λ (r : Result Parts Status). IsTaskBy h form r (Err s)) (sym is) refl)
 
     pub outcome_unread : (current : Option OpenFile) (out : Option (List ℕ)) → CallEnds (IsTask words) old.held current s out out
     outcome_unread current out =

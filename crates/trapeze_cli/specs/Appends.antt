@@ -6,14 +6,14 @@ use Rattle.std.specs.Io.KnownBytes.{append_known}
 abbrev pub AppendsAll : List ℕ → Option (List ℕ) → Option (List ℕ) → Type 0
 AppendsAll text old new = new ≡ append_known old text
 
--- a front of the text was appended that holds this much of it, and perhaps all
-pub record AppendsFront (least text : List ℕ) (old new : Option (List ℕ)) : Type 0 where
+-- a prefix of the text was appended that holds this much of it, and perhaps all
+pub record AppendsPrefix (least text : List ℕ) (old new : Option (List ℕ)) : Type 0 where
   pub more : List ℕ
   pub left : List ℕ
   pub split : text ≡ (least ++ more) ++ left
   pub appended : new ≡ append_known old (least ++ more)
 
--- such a front was appended that is not all
+-- such a prefix was appended that is not all
 pub record AppendsLess (least text : List ℕ) (old new : Option (List ℕ)) : Type 0 where
-  pub front : AppendsFront least text old new
-  pub proper : 0 < length front.left
+  pub prefix : AppendsPrefix least text old new
+  pub proper : 0 < length prefix.left

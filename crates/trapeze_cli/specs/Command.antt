@@ -1,19 +1,18 @@
 -- What a call of the program answers, by its words and the files that are held.
-use Rattle.std.specs.Prelude.{◌≡◌, ℕ, ◌-◌, ◌+◌, ◌⊎◌, List, [], ◌∷◌, ◌++◌, codes, decimal, length, map, take, nat_lt, if◌then◌else◌}
+use Rattle.std.specs.Prelude.{◌≡◌, ℕ, ◌-◌, ◌+◌, ◌⊎◌, List, [], ◌∷◌, ◌++◌, codes, decimal, length, take, nat_lt, if◌then◌else◌}
 use Rattle.std.specs.Prelude.{Option, Some, None, Result, Ok, Err, IsOk}
 use Rattle.trapeze_io.specs.Answers.{◌>>=◌}
 use Rattle.trapeze_io.specs.Seen.{Held}
-use Rattle.label_lattice.specs.Order.{place_of}
-use Rattle.policy_toml.specs.Rows.{Reading}
-use Rattle.policy_toml.specs.PolicyOf.{Written, policy_of}
-use Rattle.event_file.specs.Known.{Known}
+use Rattle.label_lattice.specs.Order.{count, place_of}
+use Rattle.policy_toml.specs.Parts.{Parts}
+use Rattle.policy_toml.specs.PolicyOf.{policy_of}
+use Rattle.policy_toml.specs.declared.error.PolicyError.{PolicyError}
 use Rattle.wasm_ast.specs.declared.modules.Module.{Module as Program}
 use Rattle.wasm_ast.specs.Faults.{Fault}
 use Rattle.wasm_ast.specs.Validity.{Valid, Invalidity}
 use Rattle.wasm_decode.specs.Grammar.{Spells}
 use Rattle.wasm_decode.specs.Sections.{Fails}
 use Rattle.wasm_validate.specs.Invalids.{fault_of}
-use Rattle.host_rules.specs.Modules.{guest_of}
 use Rattle.trapeze_cli.specs.declared.status.Status.{Status}
 use Rattle.trapeze_cli.specs.declared.status.Status.TheVariants.{Done, Usage, Policy, Module, Events, ReadFault, TooLong}
 use Rattle.trapeze_cli.specs.declared.status.Input.{Input}
@@ -25,7 +24,7 @@ use Rattle.trapeze_cli.specs.declared.shown.Shown.TheVariants.{RunKinds, AllKind
 use Rattle.trapeze_cli.specs.Exercise.{exercise_text}
 use Rattle.trapeze_cli.specs.Forms.{Show, Run, Trace, View, Form, Check, Play, policy_name, Command, Exercise, OnFiles}
 use Rattle.trapeze_cli.specs.Played.{End, AtEnd, AtBad, PastLimit, played_of}
-use Rattle.trapeze_cli.specs.Runs.{Setting, rules_under, text_of, text_heard}
+use Rattle.trapeze_cli.specs.Runs.{Setting, setting_of, text_of, text_heard}
 
 -- the most bytes of a policy file, of a module's, and of an event file
 abbrev pub policy_limit : ℕ
@@ -49,25 +48,13 @@ within limit input (Some bytes) = if nat_lt limit (length bytes) then Err (TooLo
 abbrev pub file_of : Held → List ℕ → ℕ → Input → Result (List ℕ) Status
 file_of held name limit input = within limit input (held name)
 
-abbrev pub accepted : Reading Written → Result Written Status
+abbrev pub accepted : Result Parts PolicyError → Result Parts Status
 accepted (Ok policy) = Ok policy
 accepted (Err fault) = Err (Policy fault)
 
 -- the policy of a file
-abbrev pub policy_in : Held → List ℕ → Result Written Status
+abbrev pub policy_in : Held → List ℕ → Result Parts Status
 policy_in held name = file_of held name policy_limit policy_input >>= (λ bytes. accepted (policy_of bytes))
-
--- the files of the functions
-abbrev pub files_under : Written → List (List ℕ)
-files_under policy = map (λ f. f.1) policy.functions
-
--- the names that the lines of an event file may use under a policy
-abbrev pub known_under : Written → Known
-known_under policy = record {
-  labels = policy.names;
-  clients = map (λ c. c.0) policy.clients;
-  functions = map (λ f. f.0) policy.functions;
-}
 
 -- lines that have to flow to a label, if it is one
 abbrev pub shown_to : Option ℕ → Result Shown Status
@@ -115,26 +102,17 @@ pub record Prepared : Type 0 where
   pub modules : List Program
 
 -- what is read under a policy before the event file, or the first refusal: of the label, and then of the modules
-abbrev pub IsPrepared : Held → Form → Written → Result Prepared Status → Type 0
+abbrev pub IsPrepared : Held → Form → Parts → Result Prepared Status → Type 0
 IsPrepared held form policy (Ok ready) =
-    (shown_in policy.names form ≡ Ok ready.shown) × AreModules held 0 (files_under policy) (Ok ready.modules)
+    (shown_in policy.lattice.names form ≡ Ok ready.shown) × AreModules held 0 policy.files (Ok ready.modules)
 IsPrepared held form policy (Err status) =
-    (shown_in policy.names form ≡ Err status)
-    ⊎ (IsOk (shown_in policy.names form) × AreModules held 0 (files_under policy) (Err status))
+    (shown_in policy.lattice.names form ≡ Err status)
+    ⊎ (IsOk (shown_in policy.lattice.names form) × AreModules held 0 policy.files (Err status))
 
 -- what a call does once all its files but the event file are read: it plays the event file of a name, or says a text
 pub data Task : Type 0 where
   Plays : Setting → List ℕ → Task
   Says : List ℕ → Task
-
--- what events are played on
-abbrev pub setting_under : Written → Prepared → Setting
-setting_under policy ready = record {
-  known = known_under policy;
-  rules = rules_under policy;
-  guest = guest_of ready.modules;
-  shown = ready.shown;
-}
 
 -- the line of a policy that is accepted
 abbrev pub check_text : ℕ → ℕ → ℕ → ℕ → List ℕ
@@ -142,19 +120,19 @@ check_text labels functions channels clients =
     codes "ok: " ++ decimal labels ++ codes " labels, " ++ decimal functions ++ codes " functions, "
     ++ decimal channels ++ codes " channels, " ++ decimal clients ++ codes " clients\n"
 
-abbrev pub task_under : Form → Written → Prepared → Task
+abbrev pub task_under : Form → Parts → Prepared → Task
 task_under (Check name) policy ready =
-    Says (check_text (length policy.names) (length policy.functions) (length policy.channels) (length policy.clients))
-task_under (Play show name events) policy ready = Plays (setting_under policy ready) events
+    Says (check_text (count policy.lattice) (length policy.functions) (length policy.channels) (length policy.clients))
+task_under (Play show name events) policy ready = Plays (setting_of policy ready.modules ready.shown) events
 
 -- the task of a form under a policy, or the first refusal
-abbrev pub IsTaskUnder : Held → Form → Written → Result Task Status → Type 0
+abbrev pub IsTaskUnder : Held → Form → Parts → Result Task Status → Type 0
 IsTaskUnder held form policy (Ok task) =
     (ready : Prepared) × IsPrepared held form policy (Ok ready) × (task ≡ task_under form policy ready)
 IsTaskUnder held form policy (Err status) = IsPrepared held form policy (Err status)
 
 -- so it is of a policy that was read, or was refused
-abbrev pub IsTaskBy : Held → Form → Result Written Status → Result Task Status → Type 0
+abbrev pub IsTaskBy : Held → Form → Result Parts Status → Result Task Status → Type 0
 IsTaskBy held form (Ok policy) task = IsTaskUnder held form policy task
 IsTaskBy held form (Err status) task = task ≡ Err status
 

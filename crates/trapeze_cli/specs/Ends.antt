@@ -13,7 +13,7 @@ abbrev pub IsFileOf : Option Held → List ℕ → Option OpenFile → Status �
 IsFileOf held name current status =
     IfSome held (λ h. IfSome current (λ r. (h name ≡ Some (file_in r)) ⊎ (status ≡ ReadFault events_input)))
 
--- a text was written whole, or a front of it that is not all, and the output failed
+-- a text was written whole, or a prefix of it that is not all, and the output failed
 abbrev pub SaysText : List ℕ → Status → Option (List ℕ) → Option (List ℕ) → ℕ → ℕ → Type 0
 SaysText said status old new before now =
     ((status ≡ Done) × AppendsAll said old new)

@@ -5,16 +5,16 @@ use Rattle.std.specs.Str.{bytes_eq}
 use Rattle.trapeze_lines.specs.declared.line.Line.{Line}
 use Rattle.trapeze_lines.specs.Lines.{run_kinds}
 use Rattle.trapeze_lines.specs.Texts.{kind_word}
+use Rattle.host_rules.specs.Policies.{rules_of}
 use Rattle.host_rules.specs.Modules.{guest_of}
 use Rattle.host_rules.specs.States.{start}
 use Rattle.host_rules.specs.Play.{whole, items_of}
 use Rattle.trapeze_exercise.specs.BuiltIn.{built_in, built_in_modules}
 use Rattle.trapeze_exercise.specs.Generated.{all_generated}
-use Rattle.trapeze_cli.specs.Runs.{rules_under}
 
 -- the lines that a run of the exercise prints, from an empty store and with those of the facets in the end
 unfoldable pub exercise_lines : ℕ → List Line
-exercise_lines number = run_kinds (whole (rules_under built_in) (guest_of built_in_modules) (start []) (items_of (all_generated number)))
+exercise_lines number = run_kinds (whole (rules_of built_in) (guest_of built_in_modules) (start []) (items_of (all_generated number)))
 
 -- how many lines are of the kind with this word
 abbrev pub count_of : List ℕ → List Line → ℕ

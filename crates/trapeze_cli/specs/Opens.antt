@@ -2,14 +2,14 @@
 use Rattle.std.specs.Prelude.{◌≡◌, ◌+◌, ◌<◌, ◌^◌, ⊤, ℕ, List, [], ◌∷◌, ◌++◌, length, map, Option, Some, None, IfSome, Ok, Result, Err, IsOk, IsOkAnd, take}
 use Rattle.trapeze_io.specs.Causes.{Rose}
 use Rattle.trapeze_io.specs.Seen.{Seen, Held, OpensAll}
-use Rattle.policy_toml.specs.PolicyOf.{Written}
+use Rattle.policy_toml.specs.Parts.{Parts}
 use Rattle.wasm_ast.specs.declared.modules.Module.{Module as Program}
 use Rattle.trapeze_cli.specs.declared.status.Status.{Status}
 use Rattle.trapeze_cli.specs.declared.status.Status.TheVariants.{Done, Usage, Policy, Module, Events, ReadFault, WriteFault, NoMemory, TooLong}
 use Rattle.trapeze_cli.specs.declared.status.Input.{Input}
 use Rattle.trapeze_cli.specs.declared.status.Input.TheVariants.{Policy as policy_input, Module as module_input, Events as events_input}
 use Rattle.trapeze_cli.specs.Forms.{Form, policy_name, Source, sources_of, file_name}
-use Rattle.trapeze_cli.specs.Command.{policy_in, files_under, shown_in, AreModules, Prepared, IsPrepared}
+use Rattle.trapeze_cli.specs.Command.{policy_in, shown_in, AreModules, Prepared, IsPrepared}
 
 -- the input that was opened last, and the files that were not opened
 abbrev pub IsLast : Status → Input → List Source → Type 0
@@ -36,8 +36,8 @@ pub record OpensTo (sources : List Source) (status : Status) (old new : Seen) : 
   pub opens : OpensAll (names_of (before ++ last ∷ [])) old new
 
 -- the files of the functions of a policy; none where there is no policy
-abbrev pub files_by : Result Written Status → List (List ℕ)
-files_by (Ok policy) = files_under policy
+abbrev pub files_by : Result Parts Status → List (List ℕ)
+files_by (Ok policy) = policy.files
 files_by (Err status) = []
 
 abbrev pub files_in : Held → Form → List (List ℕ)
@@ -75,11 +75,11 @@ pub record FailsToRead (form : Option Form) (input : Input) (old new : Seen) : T
   pub counted : IfSome old.opens (λ n. n < 2 ^ 63 → new.opens ≡ Some (n + opens_before (length files) input + 1))
 
 -- all before an input was accepted, under a policy
-abbrev pub IsReachedUnder : Held → Form → Written → Input → Type 0
+abbrev pub IsReachedUnder : Held → Form → Parts → Input → Type 0
 IsReachedUnder held form policy policy_input = ⊤
 IsReachedUnder held form policy (module_input f) =
-    IsOk (shown_in policy.names form) × (f < length (files_under policy))
-    × ((programs : List Program) × AreModules held 0 (take f (files_under policy)) (Ok programs))
+    IsOk (shown_in policy.lattice.names form) × (f < length policy.files)
+    × ((programs : List Program) × AreModules held 0 (take f policy.files) (Ok programs))
 IsReachedUnder held form policy events_input = (ready : Prepared) × IsPrepared held form policy (Ok ready)
 
 -- all before an input was accepted

@@ -1,5 +1,5 @@
 -- What was played of a file so far, and what a status then says of it.
-use Rattle.std.specs.Prelude.{◌≡◌, ℕ, ◌+◌, ◌*◌, ◌-◌, ◌<◌, ◌≤◌, ⊤, Bool, false, List, [], ◌++◌, length, take, OnOk, Option, None, Some, Result, Ok, Err}
+use Rattle.std.specs.Prelude.{◌≡◌, ℕ, ◌+◌, ◌*◌, ◌-◌, ◌≤◌, ⊤, Bool, false, List, [], ◌++◌, length, take, OnOk, Option, None, Some, Result, Ok, Err}
 use Rattle.trapeze_io.specs.Causes.{Rose}
 use Rattle.trapeze_io.specs.Seen.{OpenFile, Gives}
 use Rattle.wasm_semantics.specs.Threads.{Thread}
@@ -25,14 +25,15 @@ use Rattle.trapeze_cli.specs.declared.status.Input.TheVariants.{Policy as policy
 use Rattle.trapeze_cli.specs.Played.{End, AtEnd, AtBad, PastLimit, Played, played_of, events_of}
 use Rattle.trapeze_cli.specs.Runs.{Setting, shown_lines, text_of, text_heard}
 use Rattle.trapeze_cli.specs.Command.{events_limit, piece, status_at, Texts}
-use Rattle.trapeze_cli.specs.Appends.{AppendsAll, AppendsFront, AppendsLess}
+use Rattle.trapeze_cli.specs.Appends.{AppendsAll, AppendsPrefix, AppendsLess}
+use Rattle.trapeze_cli.specs.Promises.{StopsAt}
 use Rattle.trapeze_cli.specs.Whys.{Why, Finished, Refused, ReadFailed, WriteFailed, OutOfMemory, why}
 
--- what a step appended of its text: all, or a front where it halted
+-- what a step appended of its text: all, or a prefix where it halted
 abbrev pub AppendsBy : {A : Type 0} → Result A Halt → List ℕ → Option (List ℕ) → Option (List ℕ) → Type 0
 AppendsBy (Ok a) said old new = AppendsAll said old new
 AppendsBy (Err Write) said old new = AppendsLess [] said old new
-AppendsBy (Err no_memory) said old new = AppendsFront [] said old new
+AppendsBy (Err no_memory) said old new = AppendsPrefix [] said old new
 
 -- the count of an output's faults did not fall, and rose where a write failed
 pub record CountsWrites {A : Type 0} (result : Result A Halt) (before now : ℕ) : Type 0 where
@@ -47,7 +48,7 @@ said_of g lines = text g.rules.labels (shown_lines g.rules g.shown lines)
 abbrev pub text_from : Setting → State Thread → List Item → List ℕ
 text_from g s items = said_of g (trace g.rules g.guest s items)
 
--- the events were played from the states for which a host stood, and their lines written; or, where the step halted, a front of their text
+-- the events were played from the states for which a host stood, and their lines written; or, where the step halted, a prefix of their text
 pub record PlaysOn {A : Type 0} (g : Setting) (before now : State Thread → Type 0) (events : List Event)
     (result : Result A Halt) (old new : Option (List ℕ)) : Type 0 where
   pub state : OnOk result ((s : State Thread) → before s → now (play g.rules g.guest s (items_of events)).state)
@@ -149,13 +150,14 @@ WritesOf t (ReadFailed events_input) old new = AppendsAll t.heard old new
 WritesOf t (ReadFailed policy_input) old new = ⊥
 WritesOf t (ReadFailed (module_input f)) old new = ⊥
 WritesOf t WriteFailed old new = AppendsLess t.before t.all old new
-WritesOf t OutOfMemory old new = AppendsFront [] t.all old new
+WritesOf t OutOfMemory old new = AppendsPrefix [] t.all old new
 
 -- the answer of the playing of a file
 pub record PlaysFile (g : Setting) (r : OpenFile) (status : Status) (old new : Option (List ℕ)) : Type 0 where
   pub tells : Tells g r status (why status)
   pub ended : status ≡ Done → r.rest ≡ []
-  pub past : status ≡ TooLong events_input → events_limit < length r.given
+  pub past : status ≡ TooLong events_input → length r.given ≡ events_limit + 1
+  pub stopped : (bad : LineError) → status ≡ Events bad → StopsAt g.known bad r
   pub writes : WritesOf (texts_of g r) (why status) old new
 
 -- how a call ends that plays a file

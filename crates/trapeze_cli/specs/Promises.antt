@@ -1,11 +1,14 @@
 -- What the top call promises of its answers.
-use Rattle.std.specs.Prelude.{◌≡◌, ◌≢◌, ◌⊎◌, ℕ, ◌≤◌, ⊤, List, [], length, IfSome, Option, Some, None, Result, Ok}
+use Rattle.std.specs.Prelude.{◌≡◌, ◌≢◌, ◌⊎◌, ℕ, ◌-◌, ◌≤◌, ⊤, List, [], length, take, IfSome, Option, Some, None, Result, Ok}
 use Rattle.trapeze_io.specs.Seen.{Held, OpenFile}
 use Rattle.label_lattice.specs.declared.error.LatticeError.TheVariants.{NoMemory as lattice_no_memory}
 use Rattle.policy_toml.specs.declared.error.PolicyError.TheVariants.{Lattice, NoMemory as no_memory}
 use Rattle.wasm_code.specs.declared.error.DecodeError.TheVariants.{NoMemory as decode_no_memory}
 use Rattle.wasm_validate.specs.declared.invalid.Invalid.TheVariants.{NoMemory as invalid_no_memory}
+use Rattle.event_file.specs.Known.{Known}
+use Rattle.event_file.specs.Script.{entries_of}
 use Rattle.event_file.specs.Heard.{heard}
+use Rattle.event_file.specs.declared.fault.LineError.{LineError}
 use Rattle.trapeze_lines.specs.declared.line.Line.{Line}
 use Rattle.trapeze_lines.specs.Texts.{text}
 use Rattle.host_rules.specs.Rules.{HasNoGates}
@@ -18,7 +21,7 @@ use Rattle.trapeze_cli.specs.declared.status.ModuleFault.TheVariants.{Decode, In
 use Rattle.trapeze_cli.specs.Forms.{Show, Run, Trace, View, Form, Check, Play, Command, Exercise, OnFiles}
 use Rattle.trapeze_cli.specs.Played.{End, Played, played_of, events_of}
 use Rattle.trapeze_cli.specs.Runs.{Setting, shown_lines, lines_to}
-use Rattle.trapeze_cli.specs.Command.{events_limit, Task, Plays, Says, Answer, IsAnswer, status_at}
+use Rattle.trapeze_cli.specs.Command.{events_limit, piece, Task, Plays, Says, Answer, IsAnswer, status_at}
 use Rattle.trapeze_cli.specs.Appends.{AppendsAll}
 
 -- the lines that a setting shows of items, up to an end
@@ -51,6 +54,17 @@ OfTask tasks held P = (task : Task) × tasks held (Ok task) × P task
 abbrev pub IsClean : List ℕ → Task → Type 0
 IsClean given (Plays g events) = ((heard g.known given).bad ≡ None) × (length given ≤ events_limit)
 IsClean given (Says said) = ⊤
+
+-- an event file was read no further than the piece in which its bad line ends: the line is heard in the bytes given, or they are all of the
+-- file, and it is its last one; and no bad line is heard in them without the last piece
+pub record StopsAt (known : Known) (bad : LineError) (file : OpenFile) : Type 0 where
+  pub met : ((heard known file.given).bad ≡ Some bad) ⊎ ((file.rest ≡ []) × ((entries_of known file.given).bad ≡ Some bad))
+  pub before : (heard known (take (length file.given - piece) file.given)).bad ≡ None
+
+-- so it is of a task that plays a file
+abbrev pub IsStopped : Option OpenFile → LineError → Task → Type 0
+IsStopped current bad (Plays g events) = IfSome current (StopsAt g.known bad)
+IsStopped current bad (Says said) = ⊤
 
 -- the status and the whole text are those of the answer
 pub record GivesAnswer (answer : Answer) (status : Status) (old new : Option (List ℕ)) : Type 0 where

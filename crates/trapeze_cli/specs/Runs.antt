@@ -1,15 +1,11 @@
 -- The lines and the text of a run.
-use Rattle.std.specs.Prelude.{ℕ, ◌<◌, ⊤, List, [], length, map}
+use Rattle.std.specs.Prelude.{ℕ, ◌<◌, ⊤, List, []}
 use Rattle.wasm_ast.specs.declared.modules.Module.{Module}
 use Rattle.wasm_semantics.specs.Threads.{Thread}
 use Rattle.event_file.specs.Known.{Known}
 use Rattle.event_file.specs.Heard.{heard}
 use Rattle.event_file.specs.declared.entry.Entry.{Entry}
-use Rattle.label_lattice.specs.Reach.{closes}
-use Rattle.label_lattice.specs.Faults.{numbered}
-use Rattle.label_lattice.specs.Joins.{join}
 use Rattle.policy_toml.specs.Parts.{Parts}
-use Rattle.policy_toml.specs.PolicyOf.{Written, limits_by_label}
 use Rattle.trapeze_lines.specs.declared.line.Line.{Line}
 use Rattle.trapeze_lines.specs.Lines.{run_kinds}
 use Rattle.trapeze_lines.specs.Texts.{text}
@@ -33,23 +29,7 @@ pub record Setting : Type 0 where
   pub guest : Guest Thread
   pub shown : Shown
 
--- which label flows to which under a policy: a label to itself and to what it reaches by the pairs
-abbrev pub rules_under : Written → Rules
-rules_under policy =
-    let flows = closes (numbered policy.names policy.flows) in
-    record {
-      labels = policy.names;
-      flows = flows;
-      join = join (length policy.names) flows;
-      limits = limits_by_label (length policy.names) policy.limits;
-      functions = map (λ f. f.0) policy.functions;
-      channels = policy.channels;
-      clients = map (λ c. c.0) policy.clients;
-      clearances = map (λ c. c.1) policy.clients;
-      gates = policy.gates;
-    }
-
--- the setting of a policy that was read and its modules
+-- the setting of a policy and the modules of its functions
 abbrev pub setting_of : Parts → List Module → Shown → Setting
 setting_of policy modules shown =
     record { known = known_in policy; rules = rules_of policy; guest = guest_of modules; shown = shown }

@@ -1,11 +1,11 @@
 -- The statuses of a call, their numbers and their lines on the error sink.
-use Rattle.std.specs.Prelude.{◌≡◌, ℕ, List, [], ◌++◌, ◌⊎◌, codes, decimal, map, slice_index_or, Option, None, Some, IfSome, Result, Ok, Err}
+use Rattle.std.specs.Prelude.{◌≡◌, ℕ, List, [], ◌++◌, ◌⊎◌, codes, decimal, slice_index_or, Option, None, Some, IfSome, Result, Ok, Err}
 use Rattle.std.specs.Io.KnownBytes.{append_known}
 use Rattle.trapeze_io.specs.Causes.{Rose}
 use Rattle.trapeze_io.specs.Seen.{Held}
 use Rattle.trapeze_io.specs.Sinks.{AppendsPart}
 use Rattle.trapeze_cli.specs.Forms.{Form, policy_name, file_name}
-use Rattle.trapeze_cli.specs.Command.{policy_in, files_under}
+use Rattle.trapeze_cli.specs.Command.{policy_in}
 use Rattle.trapeze_cli.specs.declared.status.Input.TheVariants.{Policy as policy_input, Module as module_input, Events as events_input}
 use Rattle.trapeze_cli.specs.declared.status.Status.{Status}
 use Rattle.trapeze_cli.specs.declared.status.Status.TheVariants.{Done, Usage, Policy, Module, Events, ReadFault, WriteFault, NoMemory, TooLong}
@@ -14,7 +14,7 @@ use Rattle.trapeze_cli.specs.declared.status.ModuleFault.TheVariants.{Decode, In
 use Rattle.label_lattice.specs.declared.label.Label.{Label}
 use Rattle.label_lattice.specs.declared.error.LatticeError.{LatticeError}
 use Rattle.label_lattice.specs.declared.error.LatticeError.TheVariants as lattice
-use Rattle.policy_toml.specs.PolicyOf.{Written}
+use Rattle.policy_toml.specs.Parts.{Parts}
 use Rattle.policy_toml.specs.declared.place.Part.{Part}
 use Rattle.policy_toml.specs.declared.place.Part.TheVariants as part
 use Rattle.policy_toml.specs.declared.place.Place.{Place}
@@ -146,8 +146,8 @@ abbrev pub no_names : Named
 no_names = record { functions = []; files = [] }
 
 -- the functions of a policy
-abbrev pub named_by : Result Written Status → Named
-named_by (Ok policy) = record { functions = map (λ f. f.0) policy.functions; files = files_under policy }
+abbrev pub named_by : Result Parts Status → Named
+named_by (Ok policy) = record { functions = policy.functions; files = policy.files }
 named_by (Err status) = no_names
 
 -- the functions of the policy of words

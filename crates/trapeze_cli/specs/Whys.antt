@@ -6,7 +6,7 @@ use Rattle.trapeze_cli.specs.declared.status.Status.TheVariants.{Done, Usage, Po
 use Rattle.trapeze_cli.specs.declared.status.Input.{Input}
 use Rattle.trapeze_cli.specs.declared.status.Input.TheVariants.{Policy as policy_input, Module as module_input, Events as events_input}
 use Rattle.trapeze_cli.specs.Command.{Task, Answer, IsAnswer, Texts, texts_by}
-use Rattle.trapeze_cli.specs.Appends.{AppendsAll, AppendsFront, AppendsLess}
+use Rattle.trapeze_cli.specs.Appends.{AppendsAll, AppendsPrefix, AppendsLess}
 
 -- the task was done, for a file of events up to its end, to a bad line or past its limit; the words or another file were refused; a read
 -- or a write failed; or the call is out of memory
@@ -52,8 +52,8 @@ abbrev pub OfTexts : (Held → Result Task Status → Type 0) → Option Held �
 OfTexts tasks held given P = IfSome held (λ h. (task : Result Task Status) × tasks h task × P (texts_by h task given))
 
 -- what was written, where these were given of the open file: the whole text of the answer; nothing; the text of the lines heard in the
--- bytes given of the event file; a front of the whole text that is not all and holds the text of the lines heard but for the last piece;
--- a front
+-- bytes given of the event file; a prefix of the whole text that is not all and holds the text of the lines heard but for the last piece;
+-- a prefix
 abbrev pub Writes : (Held → Result Task Status → Type 0) → Option Held → List ℕ → Why → Option (List ℕ) → Option (List ℕ) → Type 0
 Writes tasks held given Finished old new = OfTexts tasks held given (λ t. AppendsAll t.all old new)
 Writes tasks held given Refused old new = new ≡ old
@@ -62,7 +62,7 @@ Writes tasks held given (ReadFailed (module_input f)) old new = new ≡ old
 Writes tasks held given (ReadFailed events_input) old new = OfTexts tasks held given (λ t. AppendsAll t.heard old new)
 Writes tasks held given WriteFailed old new = OfTexts tasks held given (λ t. AppendsLess t.before t.all old new)
 Writes tasks held given OutOfMemory old new =
-    IfSome held (λ h. (task : Result Task Status) → tasks h task → AppendsFront [] (texts_by h task given).all old new)
+    IfSome held (λ h. (task : Result Task Status) → tasks h task → AppendsPrefix [] (texts_by h task given).all old new)
 
 -- P of an input that could not be read
 abbrev pub IfReadFailed : Why → (Input → Type 0) → Type 0

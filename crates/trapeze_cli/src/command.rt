@@ -1,18 +1,18 @@
 //! The top call.
 
-ghost use Rattle.std.specs.Prelude.{◌≡◌, ◌<◌, ◌⊎◌, ◌↔◌, ◌++◌, ◌∷◌, [], length, map, string_bytes};
+ghost use Rattle.std.specs.Prelude.{◌≡◌, ◌+◌, ◌⊎◌, ◌↔◌, ◌++◌, ◌∷◌, [], length, map, string_bytes};
 ghost use Rattle.std.specs.Prelude.{option_map, Some, None, IfSome, Ok, Err};
 ghost use Rattle.trapeze_io.specs.Causes.{Rose};
 ghost use Rattle.trapeze_io.specs.Seen.{Seen, OpensOne};
 ghost use Rattle.policy_toml.specs.Parts.{IsPolicy};
-ghost use Rattle.policy_toml.specs.PolicyOf.{Written, IsAsWritten};
 ghost use Rattle.label_lattice.specs.Order.{count};
+ghost use Rattle.event_file.specs.declared.fault.LineError.{LineError};
 ghost use Rattle.trapeze_cli.specs.Command.{IsTask, IsTaskUnder, check_text, events_limit};
 ghost use Rattle.trapeze_cli.specs.Ends.{IsFileOf, SaysText};
 ghost use Rattle.trapeze_cli.specs.Forms.{OnFiles, command_of, form_of, policy_name, sources_of};
 ghost use Rattle.trapeze_cli.specs.Opens.{Opened, OpensTo, FailsToRead, IsReached, IsReachedUnder};
 ghost use Rattle.trapeze_cli.specs.Playing.{PlaysFile, IsOfPlay};
-ghost use Rattle.trapeze_cli.specs.Promises.{IsPrivateIn, OfTask, IsClean, IsGiven, ReadsEvents};
+ghost use Rattle.trapeze_cli.specs.Promises.{IsPrivateIn, OfTask, IsClean, IsStopped, IsGiven, ReadsEvents};
 ghost use Rattle.trapeze_cli.specs.Promises.{EndsExercise, IsRefusedCommand, TellsMemory};
 ghost use Rattle.trapeze_cli.specs.Runs.{setting_of, IsShownTo};
 ghost use Rattle.trapeze_cli.specs.Said.{said};
@@ -60,13 +60,16 @@ pub fn trapeze<F: Files, S: Sink, E: Sink>(
     ensures refused { result ≡ Status.Usage → IsRefusedCommand (command_of (map string_bytes words.now)) }
     // An exercise is done, or the output failed, or the call is out of memory.
     ensures exercised { EndsExercise (command_of (map string_bytes words.now)) result }
-    // At each status these files were opened and no others, each once; a file of events that was played to its end was read
-    // to it.
+    // At each status these files were opened and no others, each once. A file of events that was played to its end was read
+    // to it, one that is too long to one byte past its limit, and one with a bad line no further than the piece in which that
+    // line ends.
     ensures opened { Opened (form_of (map string_bytes words.now)) result (F.seen files.old) (F.seen files.new) }
     ensures read { result ≡ Status.Done →
         ReadsEvents (form_of (map string_bytes words.now)) (F.seen files.old).held (F.seen files.new).current }
     ensures past { result ≡ Status.TooLong Input.Events →
-        IfSome (F.seen files.new).current (λ r. events_limit < length r.given) }
+        IfSome (F.seen files.new).current (λ r. length r.given ≡ events_limit + 1) }
+    ensures stopped { (bad : LineError) → result ≡ Status.Events bad → IfSome (F.seen files.old).held (λ held.
+        OfTask (IsTask (command_of (map string_bytes words.now))) held (IsStopped (F.seen files.new).current bad)) }
     // A read or a write that failed is counted, and all before it was accepted; of the events too, as far as they were
     // given.
     ensures read_fault { IfReadFailed (why result) (λ input.
@@ -118,17 +121,17 @@ fn under_policy<F: Files, S: Sink>(
     policy: &Policy,
     out: &mut S,
 ) -> Status
-    ensures outcome { (w : Written) → IsAsWritten w policy.now → CallEnds (λ h t. IsTaskUnder h (said form.now) w t)
+    ensures outcome { CallEnds (λ h t. IsTaskUnder h (said form.now) policy.now t)
         (F.seen files.old).held (F.seen files.new).current result (S.written out.old) (S.written out.new) }
     ensures opens { (before : Seen) → OpensOne before (policy_name (said form.now)) (F.seen files.old) →
         OpensTo (sources_of (said form.now) policy.now.files) result before (F.seen files.new) }
     ensures counted { IfReadFailed (why result) (λ input. FaultsRose (F.seen files.old) (F.seen files.new)) }
-    ensures reached { (w : Written) → IsAsWritten w policy.now → IfReadFailed (why result) (λ input.
-        IfSome (F.seen files.old).held (λ held. IsReachedUnder held (said form.now) w input)) }
+    ensures reached { IfReadFailed (why result) (λ input.
+        IfSome (F.seen files.old).held (λ held. IsReachedUnder held (said form.now) policy.now input)) }
     ensures read { result ≡ Status.Done →
         ReadsEvents (Some (said form.now)) (F.seen files.old).held (F.seen files.new).current }
     ensures past { result ≡ Status.TooLong Input.Events →
-        IfSome (F.seen files.new).current (λ r. events_limit < length r.given) }
+        IfSome (F.seen files.new).current (λ r. length r.given ≡ events_limit + 1) }
     ensures write_fault { result ≡ Status.WriteFault → Rose (S.faults out.old) (S.faults out.new) }
     ensures refused { result ≡ Status.Usage → IsRefusedCommand (Some (OnFiles (said form.now))) }
     ensures policy { IsPolicy policy.now }

@@ -3,7 +3,6 @@
 ghost use Rattle.std.specs.Prelude.{◌≡◌, ◌≢◌, ◌≤◌, ◌⊎◌, ◌∷◌, [], length};
 ghost use Rattle.std.specs.Prelude.{IfOk, IfErr, IfSome, Ok, Err};
 ghost use Rattle.label_lattice.specs.Order.{count};
-ghost use Rattle.policy_toml.specs.PolicyOf.{Written, IsAsWritten};
 ghost use Rattle.trapeze_cli.specs.Command.{file_of, policy_in, shown_in, IsModule, AreModules};
 ghost use Rattle.trapeze_cli.specs.Forms.{module_sources};
 ghost use Rattle.trapeze_cli.specs.Judged.{IsJudged, IsTold, IsUnfit};
@@ -11,7 +10,7 @@ ghost use Rattle.wasm_ast.specs.Validity.{IsSmall, Valid};
 ghost use Rattle.trapeze_cli.specs.Promises.{TellsMemory};
 ghost use Rattle.trapeze_cli.specs.Runs.{IsShownTo};
 ghost use Rattle.trapeze_cli.specs.Said.{said};
-ghost use Rattle.trapeze_cli.specs.Steps.{Steps, ReadsPolicy, IsReachedModule};
+ghost use Rattle.trapeze_cli.specs.Steps.{Steps, IsReachedModule};
 ghost use Rattle.trapeze_cli.specs.Whys.{IfReadFailed, why};
 
 use crate::forms::{Form, Show};
@@ -65,8 +64,7 @@ pub(crate) fn read_rules<F: Files>(
     ensures steps { Steps (record { input = Input.Policy; name = name.now } ∷ [])
         (λ held r. policy_in held name.now ≡ r) (F.seen files.old) (F.seen files.new) result }
     ensures ok { IfOk result (λ policy. IfSome (F.seen files.old).held (λ held.
-        ReadsPolicy (policy_in held name.now) policy)) }
-    ensures written { IfOk result (λ policy. (w : Written) × IsAsWritten w policy) }
+        policy_in held name.now ≡ Ok policy)) }
     ensures words { IfErr result (λ status. status ≢ Status.Usage) }
     ensures memory { IfErr result TellsMemory }
 {

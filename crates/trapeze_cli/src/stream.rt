@@ -97,6 +97,7 @@ fn room(fed: u64) -> usize
     ensures some { 0 < result }
     ensures piece { result ≤ PIECE }
     ensures within { fed < EVENTS_LIMIT → fed + result ≤ EVENTS_LIMIT }
+    ensures past { EVENTS_LIMIT ≤ fed → result ≡ 1 }
 {
     if fed < EVENTS_LIMIT {
         ((EVENTS_LIMIT - fed) as usize).min(PIECE)

@@ -1,8 +1,9 @@
 -- The policy and the modules of the exercise.
-use Rattle.std.specs.Prelude.{ℕ, List, [], ◌∷◌, map, codes}
+use Rattle.std.specs.Prelude.{ℕ, List, [], ◌∷◌, codes}
+use Rattle.label_lattice.specs.Reach.{order_of}
 use Rattle.label_limits.specs.declared.limits.Limits.{Limits}
 use Rattle.labelled_channel.specs.declared.channels.Channel.{Channel}
-use Rattle.policy_toml.specs.PolicyOf.{Written}
+use Rattle.policy_toml.specs.Parts.{Parts}
 use Rattle.event_file.specs.Known.{Known}
 use Rattle.wasm_ast.specs.declared.modules.Module.{Module}
 use Rattle.wasm_ast.specs.Validity.{Valid}
@@ -22,38 +23,44 @@ flows =
 abbrev pub narrow : Limits
 narrow = record { quantum = 8; fuel = 100; pages = 4; queue = 16; facets = 8; bytes = 64 }
 
-abbrev pub limits : List (ℕ × Limits)
-limits = map (λ label. (label, narrow)) (0 ∷ 1 ∷ 2 ∷ 3 ∷ [])
+abbrev pub limits : List Limits
+limits = narrow ∷ narrow ∷ narrow ∷ narrow ∷ []
 
--- the functions with their files
-abbrev pub functions : List (List ℕ × List ℕ)
-functions =
-    (codes "hello", codes "echo.wasm") ∷ (codes "lift", codes "lift.wasm") ∷ (codes "look", codes "look.wasm")
-    ∷ (codes "spin", codes "spin.wasm") ∷ (codes "store", codes "store.wasm") ∷ (codes "twin", codes "twin.wasm") ∷ []
+-- the functions, and the file of each
+abbrev pub functions : List (List ℕ)
+functions = codes "hello" ∷ codes "lift" ∷ codes "look" ∷ codes "spin" ∷ codes "store" ∷ codes "twin" ∷ []
+
+abbrev pub files : List (List ℕ)
+files =
+    codes "echo.wasm" ∷ codes "lift.wasm" ∷ codes "look.wasm" ∷ codes "spin.wasm" ∷ codes "store.wasm" ∷ codes "twin.wasm" ∷ []
 
 -- the channel `mail` leads to `top`, into `hello`
 abbrev pub channels : List (List ℕ × Channel)
 channels = (codes "mail", record { at = record { number = 3 }; function = 0 }) ∷ []
 
--- the clients: `ann` is cleared for `alice`, `carol` for `low` and `sam` for `top`
-abbrev pub clients : List (List ℕ × ℕ)
-clients = (codes "ann", 1) ∷ (codes "carol", 0) ∷ (codes "sam", 3) ∷ []
+-- the clients, and the label for which each is cleared: `ann` for `alice`, `carol` for `low` and `sam` for `top`
+abbrev pub clients : List (List ℕ)
+clients = codes "ann" ∷ codes "carol" ∷ codes "sam" ∷ []
+
+abbrev pub clearances : List ℕ
+clearances = 1 ∷ 0 ∷ 3 ∷ []
 
 -- the policy; it has no gates
-abbrev pub built_in : Written
+abbrev pub built_in : Parts
 built_in = record {
-  names = labels;
-  flows = flows;
+  lattice = order_of labels flows;
   limits = limits;
-  functions = functions;
   channels = channels;
+  functions = functions;
+  files = files;
   clients = clients;
+  clearances = clearances;
   gates = [];
 }
 
 -- the names that the events may use
 abbrev pub known : Known
-known = record { labels = labels; clients = map (λ c. c.0) clients; functions = map (λ f. f.0) functions }
+known = record { labels = labels; clients = clients; functions = functions }
 
 -- the modules, in the order of the functions
 abbrev pub built_in_modules : List Module

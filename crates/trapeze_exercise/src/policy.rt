@@ -1,10 +1,10 @@
 //! The policy of the exercise.
 
-ghost use Rattle.std.specs.Prelude.{◌≡◌, ◌∷◌, [], map, string_bytes, replicate, IfOk, IsTrue, codes};
-ghost use Rattle.label_lattice.specs.Faults.{Denotes};
-ghost use Rattle.policy_toml.specs.PolicyOf.{IsAsWritten};
+ghost use Rattle.std.specs.Prelude.{◌≡◌, ◌∷◌, [], map, string_bytes, IfOk, IsTrue};
+ghost use Rattle.label_lattice.specs.Reach.{order_of};
 ghost use Rattle.trapeze_io.specs.Names.{is_name};
-ghost use Rattle.trapeze_exercise.specs.BuiltIn.{labels, flows, narrow, functions, channels, clients, built_in};
+ghost use Rattle.trapeze_exercise.specs.BuiltIn.{labels, flows, narrow, limits, channels, built_in};
+ghost use Rattle.trapeze_exercise.specs.BuiltIn.{functions, files, clients, clearances};
 
 use gate_rules::Gates;
 use label_lattice::{Label, Lattice, LatticeError};
@@ -20,7 +20,7 @@ use trapeze_io::{Bytes, Name, NoMemory};
 ///
 /// Out of memory.
 pub fn built_in_policy(alloc: Global) -> Result<Policy, NoMemory>
-    ensures { IfOk result (IsAsWritten built_in) }
+    ensures { IfOk result (λ policy. policy ≡ built_in) }
 {
     let lattice = lattice(alloc)?;
     let limits = limits(alloc)?;
@@ -41,7 +41,7 @@ pub fn built_in_policy(alloc: Global) -> Result<Policy, NoMemory>
 
 /// The four labels, and which flows to which.
 fn lattice(alloc: Global) -> Result<Lattice, NoMemory>
-    ensures { IfOk result (Denotes labels flows) }
+    ensures { IfOk result (λ lattice. lattice ≡ order_of labels flows) }
 {
     let labels = labels(alloc)?;
     let flows = flows(alloc)?;
@@ -85,7 +85,7 @@ fn flow(alloc: Global, from: &[u8], to: &[u8]) -> Result<(Bytes, Bytes), NoMemor
 
 /// The limits of each label.
 fn limits(alloc: Global) -> Result<Vec<Limits>, NoMemory>
-    ensures { IfOk result (λ limits. limits.items ≡ replicate 4 narrow) }
+    ensures { IfOk result (λ limits. limits.items ≡ limits) }
 {
     let narrow = narrow();
     match Vec::from_array(alloc, [narrow, narrow, narrow, narrow]) {
@@ -115,8 +115,8 @@ fn channels(alloc: Global) -> Result<Channels, NoMemory>
 
 /// The names and the files of the functions.
 fn functions(alloc: Global) -> Result<(Vec<Name>, Vec<String>), NoMemory>
-    ensures names { IfOk result (λ lists. lists.0.items ≡ map (λ f. f.0) functions) }
-    ensures files { IfOk result (λ lists. map (λ file. string_bytes file) lists.1.items ≡ map (λ f. f.1) functions) }
+    ensures names { IfOk result (λ lists. lists.0.items ≡ functions) }
+    ensures files { IfOk result (λ lists. map (λ file. string_bytes file) lists.1.items ≡ files) }
 {
     let names = [
         named(b"hello"),
@@ -135,7 +135,7 @@ fn functions(alloc: Global) -> Result<(Vec<Name>, Vec<String>), NoMemory>
 
 /// The files of the functions.
 fn files(alloc: Global) -> Result<Vec<String>, NoMemory>
-    ensures { IfOk result (λ files. map (λ file. string_bytes file) files.items ≡ map (λ f. f.1) functions) }
+    ensures { IfOk result (λ files. map (λ file. string_bytes file) files.items ≡ files) }
 {
     let [echo, lift, look] = three_files(alloc, "echo.wasm", "lift.wasm", "look.wasm")?;
     let [spin, store, twin] = three_files(alloc, "spin.wasm", "store.wasm", "twin.wasm")?;
@@ -157,8 +157,8 @@ fn three_files(alloc: Global, a: &str, b: &str, c: &str) -> Result<[String; 3], 
 
 /// The names and the clearances of the clients.
 fn clients(alloc: Global) -> Result<(Vec<Name>, Vec<Label>), NoMemory>
-    ensures names { IfOk result (λ lists. lists.0.items ≡ map (λ c. c.0) clients) }
-    ensures clearances { IfOk result (λ lists. map (λ label. label.number) lists.1.items ≡ map (λ c. c.1) clients) }
+    ensures names { IfOk result (λ lists. lists.0.items ≡ clients) }
+    ensures clearances { IfOk result (λ lists. map (λ label. label.number) lists.1.items ≡ clearances) }
 {
     let names = [named(b"ann"), named(b"carol"), named(b"sam")];
     let labels = [Label::numbered(1), Label::numbered(0), Label::numbered(3)];

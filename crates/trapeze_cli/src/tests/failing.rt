@@ -142,7 +142,7 @@ fn stops(alloc: Global, words: &[&str], call: u32, code: u8, text: &[u8]) -> Res
 }
 
 #[test]
-fn an_output_that_fails_has_the_front_of_the_text(rt: HostRuntime) -> Result<(), Fail> {
+fn an_output_that_fails_has_a_prefix_of_the_text(rt: HostRuntime) -> Result<(), Fail> {
     let alloc = rt.alloc();
     for (words, text) in [
         (RUN, WHOLE),
@@ -156,8 +156,8 @@ fn an_output_that_fails_has_the_front_of_the_text(rt: HostRuntime) -> Result<(),
     ] {
         let mut call = 1_u32;
         for written in 0..text.len() {
-            let (front, _) = text.as_bytes().split_at(written);
-            assert!(rt; stops(alloc, words, call, 6, front)?, "call {call}");
+            let (prefix, _) = text.as_bytes().split_at(written);
+            assert!(rt; stops(alloc, words, call, 6, prefix)?, "call {call}");
             call = call.saturating_add(1);
         }
         assert!(rt; stops(alloc, words, call, 0, text.as_bytes())?);

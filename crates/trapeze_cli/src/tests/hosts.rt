@@ -2,7 +2,6 @@
 
 ghost use Rattle.std.specs.Prelude.{◌≡◌};
 ghost use Rattle.std.specs.FinMap as finite;
-ghost use Rattle.policy_toml.specs.PolicyOf.{IsAsWritten};
 ghost use Rattle.trapeze_exercise.specs.BuiltIn.{built_in};
 
 use crate::play::Scene;
@@ -73,7 +72,7 @@ fn ends_with<F: Facets>(
     played: u64,
     text: &str,
 ) -> Result<(), Fail>
-    requires policy { IsAsWritten built_in policy.now }
+    requires policy { policy.now ≡ built_in }
     requires rows { F.rows store ≡ finite.empty }
     requires limits { F.limits store ≡ policy.now.limits }
 {
@@ -114,7 +113,7 @@ fn end_after(
     played: u64,
     text: &str,
 ) -> Result<(), Fail>
-    requires policy { IsAsWritten built_in policy.now }
+    requires policy { policy.now ≡ built_in }
 {
     let store = FacetList::new(alloc, policy.limits())?;
     let list = Exhausted { store, left };

@@ -10,19 +10,23 @@ use Rattle.trapeze_cli.proofs.command.trapeze.Goals as goal
 
 pub returns-in-Ok-clause-private : goal.returns-in-Ok-clause-private
 returns-in-Ok-clause-private g c =
-    (outcome_read (command_of (map string_bytes c.args.words.now)) (said c.in-OnFiles.form) (of_files c.in-Some.command c.in-OnFiles.form (command_of (map string_bytes c.args.words.now)) c.in-OnFiles.is c.in-Some.ensures) c.policy.result.now c.policy.ensures c.in-Ok.policy (g.F.Files.seen c.args.files.now) (g.F.Files.seen c.read_rules.new.files) (one_opened _ _ _ c.in-Ok.ensures.steps) c.in-Ok.ensures.ok c.in-Ok.ensures.written (g.F.Files.seen c.under_policy-status.new.files).current c.under_policy-status.result _ _ c.under_policy-status.ensures.outcome).private
+    (outcome_read (command_of (map string_bytes c.args.words.now)) (said c.in-OnFiles.form) (of_files c.in-Some.command c.in-OnFiles.form (command_of (map string_bytes c.args.words.now)) c.in-OnFiles.is c.in-Some.ensures) c.policy.result.now c.policy.ensures c.in-Ok.policy (g.F.Files.seen c.args.files.now) (g.F.Files.seen c.read_rules.new.files) (one_opened _ _ _ c.in-Ok.ensures.steps) c.in-Ok.ensures.ok (g.F.Files.seen c.under_policy-status.new.files).current c.under_policy-status.result _ _ c.under_policy-status.ensures.outcome).private
 
 pub returns-in-Ok-clause-answered : goal.returns-in-Ok-clause-answered
 returns-in-Ok-clause-answered g c =
-    (outcome_read (command_of (map string_bytes c.args.words.now)) (said c.in-OnFiles.form) (of_files c.in-Some.command c.in-OnFiles.form (command_of (map string_bytes c.args.words.now)) c.in-OnFiles.is c.in-Some.ensures) c.policy.result.now c.policy.ensures c.in-Ok.policy (g.F.Files.seen c.args.files.now) (g.F.Files.seen c.read_rules.new.files) (one_opened _ _ _ c.in-Ok.ensures.steps) c.in-Ok.ensures.ok c.in-Ok.ensures.written (g.F.Files.seen c.under_policy-status.new.files).current c.under_policy-status.result _ _ c.under_policy-status.ensures.outcome).answered
+    (outcome_read (command_of (map string_bytes c.args.words.now)) (said c.in-OnFiles.form) (of_files c.in-Some.command c.in-OnFiles.form (command_of (map string_bytes c.args.words.now)) c.in-OnFiles.is c.in-Some.ensures) c.policy.result.now c.policy.ensures c.in-Ok.policy (g.F.Files.seen c.args.files.now) (g.F.Files.seen c.read_rules.new.files) (one_opened _ _ _ c.in-Ok.ensures.steps) c.in-Ok.ensures.ok (g.F.Files.seen c.under_policy-status.new.files).current c.under_policy-status.result _ _ c.under_policy-status.ensures.outcome).answered
 
 pub returns-in-Ok-clause-written : goal.returns-in-Ok-clause-written
 returns-in-Ok-clause-written g c =
-    (outcome_read (command_of (map string_bytes c.args.words.now)) (said c.in-OnFiles.form) (of_files c.in-Some.command c.in-OnFiles.form (command_of (map string_bytes c.args.words.now)) c.in-OnFiles.is c.in-Some.ensures) c.policy.result.now c.policy.ensures c.in-Ok.policy (g.F.Files.seen c.args.files.now) (g.F.Files.seen c.read_rules.new.files) (one_opened _ _ _ c.in-Ok.ensures.steps) c.in-Ok.ensures.ok c.in-Ok.ensures.written (g.F.Files.seen c.under_policy-status.new.files).current c.under_policy-status.result _ _ c.under_policy-status.ensures.outcome).written
+    (outcome_read (command_of (map string_bytes c.args.words.now)) (said c.in-OnFiles.form) (of_files c.in-Some.command c.in-OnFiles.form (command_of (map string_bytes c.args.words.now)) c.in-OnFiles.is c.in-Some.ensures) c.policy.result.now c.policy.ensures c.in-Ok.policy (g.F.Files.seen c.args.files.now) (g.F.Files.seen c.read_rules.new.files) (one_opened _ _ _ c.in-Ok.ensures.steps) c.in-Ok.ensures.ok (g.F.Files.seen c.under_policy-status.new.files).current c.under_policy-status.result _ _ c.under_policy-status.ensures.outcome).written
 
 pub returns-in-Ok-clause-clean : goal.returns-in-Ok-clause-clean
 returns-in-Ok-clause-clean g c =
-    (outcome_read (command_of (map string_bytes c.args.words.now)) (said c.in-OnFiles.form) (of_files c.in-Some.command c.in-OnFiles.form (command_of (map string_bytes c.args.words.now)) c.in-OnFiles.is c.in-Some.ensures) c.policy.result.now c.policy.ensures c.in-Ok.policy (g.F.Files.seen c.args.files.now) (g.F.Files.seen c.read_rules.new.files) (one_opened _ _ _ c.in-Ok.ensures.steps) c.in-Ok.ensures.ok c.in-Ok.ensures.written (g.F.Files.seen c.under_policy-status.new.files).current c.under_policy-status.result _ _ c.under_policy-status.ensures.outcome).clean
+    (outcome_read (command_of (map string_bytes c.args.words.now)) (said c.in-OnFiles.form) (of_files c.in-Some.command c.in-OnFiles.form (command_of (map string_bytes c.args.words.now)) c.in-OnFiles.is c.in-Some.ensures) c.policy.result.now c.policy.ensures c.in-Ok.policy (g.F.Files.seen c.args.files.now) (g.F.Files.seen c.read_rules.new.files) (one_opened _ _ _ c.in-Ok.ensures.steps) c.in-Ok.ensures.ok (g.F.Files.seen c.under_policy-status.new.files).current c.under_policy-status.result _ _ c.under_policy-status.ensures.outcome).clean
+
+pub returns-in-Ok-clause-stopped : goal.returns-in-Ok-clause-stopped
+returns-in-Ok-clause-stopped g c =
+    (outcome_read (command_of (map string_bytes c.args.words.now)) (said c.in-OnFiles.form) (of_files c.in-Some.command c.in-OnFiles.form (command_of (map string_bytes c.args.words.now)) c.in-OnFiles.is c.in-Some.ensures) c.policy.result.now c.policy.ensures c.in-Ok.policy (g.F.Files.seen c.args.files.now) (g.F.Files.seen c.read_rules.new.files) (one_opened _ _ _ c.in-Ok.ensures.steps) c.in-Ok.ensures.ok (g.F.Files.seen c.under_policy-status.new.files).current c.under_policy-status.result _ _ c.under_policy-status.ensures.outcome).stopped
 
 pub returns-in-Ok-clause-opened : goal.returns-in-Ok-clause-opened
 returns-in-Ok-clause-opened g c =
@@ -46,7 +50,7 @@ returns-in-Ok-clause-read_fault g c =
 pub returns-in-Ok-clause-complete : goal.returns-in-Ok-clause-complete
 returns-in-Ok-clause-complete g c =
     λ quiet dry.
-    let outcome = (outcome_read (command_of (map string_bytes c.args.words.now)) (said c.in-OnFiles.form) (of_files c.in-Some.command c.in-OnFiles.form (command_of (map string_bytes c.args.words.now)) c.in-OnFiles.is c.in-Some.ensures) c.policy.result.now c.policy.ensures c.in-Ok.policy (g.F.Files.seen c.args.files.now) (g.F.Files.seen c.read_rules.new.files) (one_opened _ _ _ c.in-Ok.ensures.steps) c.in-Ok.ensures.ok c.in-Ok.ensures.written (g.F.Files.seen c.under_policy-status.new.files).current c.under_policy-status.result _ _ c.under_policy-status.ensures.outcome) in
+    let outcome = (outcome_read (command_of (map string_bytes c.args.words.now)) (said c.in-OnFiles.form) (of_files c.in-Some.command c.in-OnFiles.form (command_of (map string_bytes c.args.words.now)) c.in-OnFiles.is c.in-Some.ensures) c.policy.result.now c.policy.ensures c.in-Ok.policy (g.F.Files.seen c.args.files.now) (g.F.Files.seen c.read_rules.new.files) (one_opened _ _ _ c.in-Ok.ensures.steps) c.in-Ok.ensures.ok (g.F.Files.seen c.under_policy-status.new.files).current c.under_policy-status.result _ _ c.under_policy-status.ensures.outcome) in
     completes (command_of (map string_bytes c.args.words.now)) (g.F.Files.seen c.args.files.now).held _ _ _ c.under_policy-status.result _ _ _ _ outcome.answered outcome.written
     (failed_map c.under_policy-status.result (λ i k. k.rose) (counted_later (c.policy.result.now ∷ []) (g.F.Files.seen c.args.files.now) (g.F.Files.seen c.read_rules.new.files) (g.F.Files.seen c.under_policy-status.new.files) c.under_policy-status.result c.in-Ok.ensures.steps c.under_policy-status.ensures.counted)) c.under_policy-status.ensures.write_fault quiet dry
 
@@ -69,6 +73,10 @@ returns-in-Err-clause-written g c =
 pub returns-in-Err-clause-clean : goal.returns-in-Err-clause-clean
 returns-in-Err-clause-clean g c =
     (outcome_unread (command_of (map string_bytes c.args.words.now)) (said c.in-OnFiles.form) (of_files c.in-Some.command c.in-OnFiles.form (command_of (map string_bytes c.args.words.now)) c.in-OnFiles.is c.in-Some.ensures) c.policy.result.now c.policy.ensures (g.F.Files.seen c.args.files.now) (g.F.Files.seen c.read_rules.new.files) c.in-Err.status c.in-Err.ensures.steps (g.F.Files.seen c.read_rules.new.files).current (g.S.Sink.written c.args.out.now)).clean
+
+pub returns-in-Err-clause-stopped : goal.returns-in-Err-clause-stopped
+returns-in-Err-clause-stopped g c =
+    (outcome_unread (command_of (map string_bytes c.args.words.now)) (said c.in-OnFiles.form) (of_files c.in-Some.command c.in-OnFiles.form (command_of (map string_bytes c.args.words.now)) c.in-OnFiles.is c.in-Some.ensures) c.policy.result.now c.policy.ensures (g.F.Files.seen c.args.files.now) (g.F.Files.seen c.read_rules.new.files) c.in-Err.status c.in-Err.ensures.steps (g.F.Files.seen c.read_rules.new.files).current (g.S.Sink.written c.args.out.now)).stopped
 
 pub returns-in-Err-clause-opened : goal.returns-in-Err-clause-opened
 returns-in-Err-clause-opened g c =
@@ -114,6 +122,10 @@ returns-in-Exercise-clause-written g c =
 pub returns-in-Exercise-clause-clean : goal.returns-in-Exercise-clause-clean
 returns-in-Exercise-clause-clean g c =
     (exercise_outcome (command_of (map string_bytes c.args.words.now)) c.in-Exercise.number (of_exercise c.in-Some.command c.in-Exercise.number (command_of (map string_bytes c.args.words.now)) c.in-Exercise.is c.in-Some.ensures) c.exercise-status.result _ _ _ _ c.exercise-status.ensures (g.F.Files.seen c.args.files.now).held (g.F.Files.seen c.args.files.now).current).clean
+
+pub returns-in-Exercise-clause-stopped : goal.returns-in-Exercise-clause-stopped
+returns-in-Exercise-clause-stopped g c =
+    (exercise_outcome (command_of (map string_bytes c.args.words.now)) c.in-Exercise.number (of_exercise c.in-Some.command c.in-Exercise.number (command_of (map string_bytes c.args.words.now)) c.in-Exercise.is c.in-Some.ensures) c.exercise-status.result _ _ _ _ c.exercise-status.ensures (g.F.Files.seen c.args.files.now).held (g.F.Files.seen c.args.files.now).current).stopped
 
 pub returns-in-Exercise-clause-refused : goal.returns-in-Exercise-clause-refused
 returns-in-Exercise-clause-refused g c =

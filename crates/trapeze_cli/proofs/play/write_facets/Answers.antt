@@ -1,11 +1,11 @@
 use Rattle.trapeze_host.specs.Standing.{modules_lent}
 use Rattle.trapeze_cli.proofs.Playing.{err_is}
-use Rattle.trapeze_cli.proofs.Fronts.{front_none}
+use Rattle.trapeze_cli.proofs.Prefixes.{prefix_none}
 use Rattle.trapeze_cli.proofs.Telling.{facets_told, all_labelled}
 use Rattle.trapeze_cli.proofs.play.write_facets.Goals as goal
 
 pub returns-in_err-facet_lines-clause-lines : goal.returns-in_err-facet_lines-clause-lines
-returns-in_err-facet_lines-clause-lines g c = λ s is. rw (err_is _ _ c.from_residual.ensures.1) (front_none _ _)
+returns-in_err-facet_lines-clause-lines g c = λ s is. rw (err_is _ _ c.from_residual.ensures.1) (prefix_none _ _)
 
 pub write_lines-requires-clause-labelled : goal.write_lines-requires-clause-labelled
 write_lines-requires-clause-labelled g c =

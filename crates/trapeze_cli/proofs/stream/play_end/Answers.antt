@@ -6,7 +6,7 @@ use Rattle.trapeze_cli.specs.Runs.{setting_of}
 use Rattle.trapeze_cli.proofs.Playing.{err_is, state_after}
 use Rattle.trapeze_cli.proofs.Pacing.{few_turns}
 use Rattle.trapeze_cli.proofs.Passing.{last_entry}
-use Rattle.trapeze_cli.proofs.Fronts.{front_none}
+use Rattle.trapeze_cli.proofs.Prefixes.{prefix_none}
 use Rattle.trapeze_cli.proofs.Lasting.{last_halts, last_told, none_told, bad_told, told_halt}
 use Rattle.trapeze_cli.proofs.stream.play_end.Goals as goal
 
@@ -65,4 +65,4 @@ returns-in_ok-write_facets-in-NoLine-clause-lines g c = λ s is.
     (c.in_ok-write_facets-in-NoLine.ensures.lines s is)
 
 pub returns-in-NoMemory-clause-lines : goal.returns-in-NoMemory-clause-lines
-returns-in-NoMemory-clause-lines g c = λ s is. front_none _ _
+returns-in-NoMemory-clause-lines g c = λ s is. prefix_none _ _

@@ -66,10 +66,11 @@ returns-then-fed-ge-EVENTS_LIMIT-clause-answers g c =
     let inv = c.pieces.invariant in
     let setting = setting_of c.args.scene.now.policy.now (modules_lent c.args.host.now) c.args.scene.now.shown in
     let over = take c.in-Ok.count c.read.new.buf in
+    let full = room_long c.room.result c.read.new.buf c.pieces.buffer c.read.auto.buf c.room.array_long c.room.ensures.piece in
     let long : length over ≡ c.in-Ok.count = length-take-le c.in-Ok.count c.read.new.buf c.in-Ok.ensures.bound.0 in
     told (g.F.Files.seen c.args.files.now).current (g.F.Files.seen c.read.new.self).current (inv.given ++ over) c.requires.begun
     (Gives-trans _ (g.F.Files.seen c.pieces.files).current _ inv.given over inv.gives c.in-Ok.ensures.bytes.0)
-    (λ r same. answers_past setting r inv.given over inv.entries c.pieces.reader _ _ same (omega (arith, inv.within, inv.follows.fed)) (omega (arith, long)) inv.follows inv.dry
+    (λ r same. answers_past setting r inv.given over inv.entries c.pieces.reader _ _ same (omega (arith, inv.within, inv.follows.fed)) (omega (arith, long, full, c.in-Ok.ensures.bound.0, c.room.ensures.past)) inv.follows inv.dry
     (inv.plays.lines (start []) c.requires.stands))
 
 pub returns-in_default-feed-clause-answers : goal.returns-in_default-feed-clause-answers
