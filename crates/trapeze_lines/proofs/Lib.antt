@@ -1,3 +1,4 @@
 pub mod Spaces
+pub mod Digits
 pub mod Spellings
 pub mod Reading

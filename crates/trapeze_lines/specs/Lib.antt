@@ -2,4 +2,3 @@ pub mod Lines
 pub mod Texts
 pub mod Drafts
 pub mod Reading
-pub mod Answers

@@ -1,7 +1,8 @@
--- The text of lines: words with one space between each two, and a line feed.
-use Rattle.std.specs.Prelude.{ℕ, List, [], ◌∷◌, ◌++◌, Option, Some, None, codes, decimal, slice_index_or}
+-- The text of lines, words with one space between each two and a line feed, and what a call that reads a text answers.
+use Rattle.std.specs.Prelude.{◌≡◌, ⊤, ℕ, List, [], ◌∷◌, ◌++◌, Option, Some, None, codes, decimal, slice_index_or}
 use Rattle.std.specs.List.{flat_map, join_with_byte}
 use Rattle.hex.specs.Hex.{encode_lower}
+use Rattle.label_lattice.specs.Order.{Order, count}
 use Rattle.label_lattice.specs.declared.label.Label.{Label}
 use Rattle.trapeze_lines.specs.declared.line.Line.{Line}
 use Rattle.trapeze_lines.specs.declared.line.Kind.{Kind}
@@ -10,6 +11,9 @@ use Rattle.trapeze_lines.specs.declared.outcome.Outcome.{Outcome}
 use Rattle.trapeze_lines.specs.declared.outcome.Outcome.TheVariants.{Ended, Waits, Raised, Trapped}
 use Rattle.trapeze_lines.specs.declared.outcome.Cause.{Cause}
 use Rattle.trapeze_lines.specs.declared.outcome.Cause.TheVariants as cause
+use Rattle.trapeze_lines.specs.declared.read.ReadLine.{ReadLine}
+use Rattle.trapeze_lines.specs.declared.read.ReadLine.TheVariants as answer
+use Rattle.trapeze_lines.specs.Lines.{IsLine}
 
 -- the name of a label
 abbrev pub label_text : List (List ℕ) → Label → List ℕ
@@ -100,3 +104,13 @@ line_text names line = bare_text names line ++ codes "\n"
 -- the texts of the lines, joined
 abbrev pub text : List (List ℕ) → List Line → List ℕ
 text names lines = flat_map (line_text names) lines
+
+-- the text, without its line feed, is that of the line, which lies within its limits
+abbrev pub IsTextOf : Order → List ℕ → Line → Type 0
+IsTextOf order bytes line = IsLine (count order) line × (bare_text order.names line ≡ bytes)
+
+-- a line is answered where the text is that line's, and that there is none where it is no line's
+abbrev pub IsReading : Order → List ℕ → ReadLine → Type 0
+IsReading order bytes (answer.Line line) = IsTextOf order bytes line
+IsReading order bytes answer.NotALine = (line : Line) → IsTextOf order bytes line → ⊥
+IsReading order bytes answer.NoMemory = ⊤

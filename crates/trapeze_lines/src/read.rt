@@ -1,7 +1,8 @@
 //! Reading a line from its text.
 
-ghost use Rattle.trapeze_lines.specs.Answers.{IsReading};
-ghost use Rattle.trapeze_lines.specs.Reading.{Reads, activation_of, facet_of, idle_of, key_of, kind_of, line_of, message_of, outcome_of, reply_of, start_of, turn_of};
+ghost use Rattle.trapeze_io.specs.Answers.{Answers};
+ghost use Rattle.trapeze_lines.specs.Reading.{activation_of, facet_of, fault_of, idle_of, key_of, kind_of, line_of, message_of, outcome_of, reply_of, start_of, turn_of};
+ghost use Rattle.trapeze_lines.specs.Texts.{IsReading};
 
 use crate::line::{Kind, Line};
 use crate::outcome::Outcome;
@@ -39,7 +40,7 @@ pub fn read_text(alloc: Global, lattice: &Lattice, bytes: &[u8]) -> ReadLine
 
 #[tactic(auto, unfolding(crate::specs::Reading::line_of))]
 fn read_line(alloc: Global, lattice: &Lattice, mut words: Words) -> Result<Line, Unread>
-    ensures { Reads (line_of lattice.now.names words.entry) result }
+    ensures { Answers fault_of (line_of lattice.now.names words.entry) result }
 {
     let (Some(first), Some(label)) = (words.next_word(), words.next_word()) else {
         return Err(Unread::NotALine);
@@ -52,7 +53,7 @@ fn read_line(alloc: Global, lattice: &Lattice, mut words: Words) -> Result<Line,
 /// What a line with this first word says by the words after the name of its label.
 #[tactic(auto, unfolding(crate::specs::Reading::kind_of))]
 fn read_kind(alloc: Global, lattice: &Lattice, first: &[u8], words: Words) -> Result<Kind, Unread>
-    ensures { Reads (kind_of lattice.now.names first.now words.entry) result }
+    ensures { Answers fault_of (kind_of lattice.now.names first.now words.entry) result }
 {
     if first == b"reply".as_slice() {
         let (client, id, bytes) = read_reply(alloc, words)?;
@@ -93,7 +94,7 @@ fn read_kind(alloc: Global, lattice: &Lattice, first: &[u8], words: Words) -> Re
 /// A client, an id and bytes.
 #[tactic(auto, unfolding(crate::specs::Reading::reply_of))]
 fn read_reply(alloc: Global, mut words: Words) -> Result<(Name, Name, Bytes), Unread>
-    ensures { Reads (reply_of words.entry) result }
+    ensures { Answers fault_of (reply_of words.entry) result }
 {
     let (Some(client), Some(id), Some(bytes), None) = (
         words.next_word(),
@@ -112,7 +113,7 @@ fn read_reply(alloc: Global, mut words: Words) -> Result<(Name, Name, Bytes), Un
 /// A function and the id of a request or a dash.
 #[tactic(auto, unfolding(crate::specs::Reading::activation_of))]
 fn read_activation(mut words: Words) -> Result<(Name, Option<Name>), Unread>
-    ensures { Reads (activation_of words.entry) result }
+    ensures { Answers fault_of (activation_of words.entry) result }
 {
     let (Some(function), Some(id), None) = (words.next_word(), words.next_word(), words.next_word())
     else {
@@ -126,7 +127,7 @@ fn read_activation(mut words: Words) -> Result<(Name, Option<Name>), Unread>
 /// A key and a value.
 #[tactic(auto, unfolding(crate::specs::Reading::facet_of))]
 fn read_facet(alloc: Global, mut words: Words) -> Result<(Bytes, Option<Bytes>), Unread>
-    ensures { Reads (facet_of words.entry) result }
+    ensures { Answers fault_of (facet_of words.entry) result }
 {
     let (Some(key), Some(value), None) = (words.next_word(), words.next_word(), words.next_word())
     else {
@@ -140,7 +141,7 @@ fn read_facet(alloc: Global, mut words: Words) -> Result<(Bytes, Option<Bytes>),
 /// A key.
 #[tactic(auto, unfolding(crate::specs::Reading::key_of))]
 fn read_key(alloc: Global, mut words: Words) -> Result<Bytes, Unread>
-    ensures { Reads (key_of words.entry) result }
+    ensures { Answers fault_of (key_of words.entry) result }
 {
     let (Some(key), None) = (words.next_word(), words.next_word()) else {
         return Err(Unread::NotALine);
@@ -151,7 +152,7 @@ fn read_key(alloc: Global, mut words: Words) -> Result<Bytes, Unread>
 /// A channel and bytes.
 #[tactic(auto, unfolding(crate::specs::Reading::message_of))]
 fn read_message(alloc: Global, mut words: Words) -> Result<(Name, Bytes), Unread>
-    ensures { Reads (message_of words.entry) result }
+    ensures { Answers fault_of (message_of words.entry) result }
 {
     let (Some(channel), Some(bytes), None) = (
         words.next_word(),
@@ -168,7 +169,7 @@ fn read_message(alloc: Global, mut words: Words) -> Result<(Name, Bytes), Unread
 /// A number alone.
 #[tactic(auto, unfolding(crate::specs::Reading::idle_of))]
 fn read_idle(mut words: Words) -> Result<u64, Unread>
-    ensures { Reads (idle_of words.entry) result }
+    ensures { Answers fault_of (idle_of words.entry) result }
 {
     let (Some(number), None) = (words.next_word(), words.next_word()) else {
         return Err(Unread::NotALine);
@@ -179,7 +180,7 @@ fn read_idle(mut words: Words) -> Result<u64, Unread>
 /// A number, a function, an id or a dash, and an outcome.
 #[tactic(auto, unfolding(crate::specs::Reading::turn_of))]
 fn read_turn(mut words: Words) -> Result<Kind, Unread>
-    ensures { Reads (turn_of words.entry) result }
+    ensures { Answers fault_of (turn_of words.entry) result }
 {
     let (Some(number), Some(function), Some(id)) = (
         words.next_word(),
@@ -203,7 +204,7 @@ fn read_turn(mut words: Words) -> Result<Kind, Unread>
 /// A label, a function and an id or a dash.
 #[tactic(auto, unfolding(crate::specs::Reading::start_of))]
 fn read_start(lattice: &Lattice, mut words: Words) -> Result<Kind, Unread>
-    ensures { Reads (start_of lattice.now.names words.entry) result }
+    ensures { Answers fault_of (start_of lattice.now.names words.entry) result }
 {
     let Some(from) = words.next_word() else {
         return Err(Unread::NotALine);
@@ -215,7 +216,7 @@ fn read_start(lattice: &Lattice, mut words: Words) -> Result<Kind, Unread>
 
 #[tactic(auto, unfolding(crate::specs::Reading::outcome_of))]
 fn read_outcome(mut words: Words) -> Result<Outcome, Unread>
-    ensures { Reads (outcome_of words.entry) result }
+    ensures { Answers fault_of (outcome_of words.entry) result }
 {
     match (words.next_word(), words.next_word(), words.next_word()) {
         (Some(word), None, _) => read_plain_outcome(word),

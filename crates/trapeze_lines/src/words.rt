@@ -3,7 +3,8 @@
 ghost use Rattle.std.specs.Prelude.{◌≡◌, not};
 ghost use Rattle.std.specs.Char.{is_ascii_uppercase};
 ghost use Rattle.std.specs.List.{list_all};
-ghost use Rattle.trapeze_lines.specs.Reading.{Reads, bytes_of, cause_of, id_of, label_of, name_of, number_of, plain_outcome_of, value_of};
+ghost use Rattle.trapeze_io.specs.Answers.{Answers};
+ghost use Rattle.trapeze_lines.specs.Reading.{bytes_of, cause_of, fault_of, id_of, label_of, name_of, number_of, plain_outcome_of, value_of};
 
 use crate::outcome::{Cause, Outcome};
 use crate::write::{cause_text, outcome_text};
@@ -40,7 +41,7 @@ pub(crate) enum Unread {
 
 #[tactic(auto, unfolding(crate::specs::Reading::name_of))]
 pub(crate) fn read_name(word: &[u8]) -> Result<Name, Unread>
-    ensures { Reads (name_of word.now) result }
+    ensures { Answers fault_of (name_of word.now) result }
 {
     match Name::read(word) {
         Some(name) => Ok(name),
@@ -51,7 +52,7 @@ pub(crate) fn read_name(word: &[u8]) -> Result<Name, Unread>
 /// The id of a request, or a dash where there is none.
 #[tactic(auto, unfolding(crate::specs::Reading::id_of))]
 pub(crate) fn read_id(word: &[u8]) -> Result<Option<Name>, Unread>
-    ensures { Reads (id_of word.now) result }
+    ensures { Answers fault_of (id_of word.now) result }
 {
     if word == b"-".as_slice() {
         return Ok(None);
@@ -62,7 +63,7 @@ pub(crate) fn read_id(word: &[u8]) -> Result<Option<Name>, Unread>
 
 #[tactic(auto, unfolding(crate::specs::Reading::label_of))]
 pub(crate) fn read_label(lattice: &Lattice, word: &[u8]) -> Result<Label, Unread>
-    ensures { Reads (label_of lattice.now.names word.now) result }
+    ensures { Answers fault_of (label_of lattice.now.names word.now) result }
 {
     match lattice.find(word) {
         Some(label) => Ok(label),
@@ -72,7 +73,7 @@ pub(crate) fn read_label(lattice: &Lattice, word: &[u8]) -> Result<Label, Unread
 
 /// The number whose decimal digits the word is.
 pub(crate) fn read_number(word: &[u8]) -> Result<u64, Unread>
-    ensures { Reads (number_of word.now) result }
+    ensures { Answers fault_of (number_of word.now) result }
 {
     let Ok(text) = str::from_utf8(word) else {
         return Err(Unread::NotALine);
@@ -91,7 +92,7 @@ pub(crate) fn read_number(word: &[u8]) -> Result<u64, Unread>
 /// The bytes that the word spells, if there are at most so many.
 #[tactic(auto, unfolding(crate::specs::Reading::bytes_of))]
 pub(crate) fn read_bytes(alloc: Global, most: usize, word: &[u8]) -> Result<Bytes, Unread>
-    ensures { Reads (bytes_of most word.now) result }
+    ensures { Answers fault_of (bytes_of most word.now) result }
 {
     let Some((b'x', digits)) = word.split_first() else {
         return Err(Unread::NotALine);
@@ -122,7 +123,7 @@ fn are_lower(digits: &[u8]) -> bool
 /// The value that the word spells, or a dash where it is absent.
 #[tactic(auto, unfolding(crate::specs::Reading::value_of))]
 pub(crate) fn read_value(alloc: Global, word: &[u8]) -> Result<Option<Bytes>, Unread>
-    ensures { Reads (value_of word.now) result }
+    ensures { Answers fault_of (value_of word.now) result }
 {
     if word == b"-".as_slice() {
         return Ok(None);
@@ -133,7 +134,7 @@ pub(crate) fn read_value(alloc: Global, word: &[u8]) -> Result<Option<Bytes>, Un
 
 #[tactic(auto, unfolding(crate::specs::Reading::cause_of))]
 pub(crate) fn read_cause(word: &[u8]) -> Result<Cause, Unread>
-    ensures { Reads (cause_of word.now) result }
+    ensures { Answers fault_of (cause_of word.now) result }
 {
     match CAUSES.iter().find(|cause| cause_text(**cause) == word) {
         Some(cause) => Ok(*cause),
@@ -144,7 +145,7 @@ pub(crate) fn read_cause(word: &[u8]) -> Result<Cause, Unread>
 /// The outcome of one word.
 #[tactic(auto, unfolding(crate::specs::Reading::plain_outcome_of))]
 pub(crate) fn read_plain_outcome(word: &[u8]) -> Result<Outcome, Unread>
-    ensures { Reads (plain_outcome_of word.now) result }
+    ensures { Answers fault_of (plain_outcome_of word.now) result }
 {
     match OUTCOMES
         .iter()
