@@ -5,5 +5,5 @@ pub mod Script
 pub mod Reader
 pub mod Heard
 pub mod Calls
-pub mod Agrees
+pub mod Unread
 pub mod Kept

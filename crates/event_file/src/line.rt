@@ -2,7 +2,8 @@
 
 ghost use Rattle.std.specs.Prelude.{◌≡◌, None, Ok};
 ghost use Rattle.event_file.specs.Lines.{is_remark};
-ghost use Rattle.event_file.specs.Agrees.{Agrees};
+ghost use Rattle.trapeze_io.specs.Answers.{Answers};
+ghost use Rattle.event_file.specs.Unread.{fault_of};
 ghost use Rattle.event_file.specs.Known.{IsNumbered};
 ghost use Rattle.event_file.specs.Script.{ask_of, entry_of, line_of, put_of, turn_of};
 
@@ -22,7 +23,7 @@ pub(crate) const LONGEST_LINE: usize = 140_000;
 #[tactic(auto, unfolding(crate::specs::Script::line_of))]
 pub(crate) fn read_line(alloc: Global, known: &Known, line: &[u8]) -> Result<Option<Entry>, Unread>
     requires { IsNumbered known.now }
-    ensures said { Agrees (line_of known.now line.now) result }
+    ensures said { Answers fault_of (line_of known.now line.now) result }
     ensures nothing { line_of known.now line.now ≡ Ok None → result ≡ Ok None }
 {
     if line.len() > LONGEST_LINE {
@@ -47,7 +48,7 @@ fn is_remark(line: &[u8]) -> bool
 #[tactic(auto, unfolding(crate::specs::Script::entry_of))]
 fn read_entry(alloc: Global, known: &Known, mut words: Words) -> Result<Entry, Unread>
     requires { IsNumbered known.now }
-    ensures { Agrees (entry_of known.now words.entry) result }
+    ensures { Answers fault_of (entry_of known.now words.entry) result }
 {
     match words.next_word() {
         Some(first) if first == b"put".as_slice() => {
@@ -65,7 +66,7 @@ fn read_entry(alloc: Global, known: &Known, mut words: Words) -> Result<Entry, U
 
 #[tactic(auto, unfolding(crate::specs::Script::put_of))]
 fn read_put(alloc: Global, known: &Known, mut words: Words) -> Result<Event, Unread>
-    ensures { Agrees (put_of known.now words.entry) result }
+    ensures { Answers fault_of (put_of known.now words.entry) result }
 {
     let (Some(label), Some(key), Some(value), None) = (
         words.next_word(),
@@ -84,7 +85,7 @@ fn read_put(alloc: Global, known: &Known, mut words: Words) -> Result<Event, Unr
 #[tactic(auto, unfolding(crate::specs::Script::ask_of))]
 fn read_ask(alloc: Global, known: &Known, mut words: Words) -> Result<Event, Unread>
     requires { IsNumbered known.now }
-    ensures { Agrees (ask_of known.now words.entry) result }
+    ensures { Answers fault_of (ask_of known.now words.entry) result }
 {
     let (Some(label), Some(client), Some(function)) = (
         words.next_word(),
@@ -113,7 +114,7 @@ fn read_ask(alloc: Global, known: &Known, mut words: Words) -> Result<Event, Unr
 
 #[tactic(auto, unfolding(crate::specs::Script::turn_of))]
 fn read_turn(known: &Known, mut words: Words) -> Result<Entry, Unread>
-    ensures { Agrees (turn_of known.now words.entry) result }
+    ensures { Answers fault_of (turn_of known.now words.entry) result }
 {
     match (words.next_word(), words.next_word(), words.next_word()) {
         (Some(label), None, _) => {

@@ -1,7 +1,8 @@
 //! The reader of an event file that comes in pieces.
 
 ghost use Rattle.std.specs.Prelude.{◌≡◌, ◌+◌, ◌<◌, ◌≤◌, ◌==◌, if◌then◌else◌, true, ◌^◌, ◌++◌, [], ◌∷◌, List, ℕ, length, take, drop, false, None, Some, Ok, IfSome, OnOk, OnErr, MatchOption, position};
-ghost use Rattle.event_file.specs.Agrees.{Agrees};
+ghost use Rattle.trapeze_io.specs.Answers.{Answers};
+ghost use Rattle.event_file.specs.Unread.{fault_of};
 ghost use Rattle.event_file.specs.Lines.{lines_of};
 ghost use Rattle.event_file.specs.Known.{AreNumbered};
 ghost use Rattle.event_file.specs.Heard.{heard_with};
@@ -192,7 +193,7 @@ impl<'a> EventReader<'a> {
     /// What so many of the bytes kept say as a line.
     fn read_first(&self, len: usize) -> Result<Option<Entry>, Unread>
         requires { len ≤ length self.now.kept }
-        ensures said { Agrees (said_by self.now (take len self.now.kept)) result }
+        ensures said { Answers fault_of (said_by self.now (take len self.now.kept)) result }
         ensures nothing { said_by self.now (take len self.now.kept) ≡ Ok None → result ≡ Ok None }
     {
         let line = &self.buffer[self.start..self.start + len];

@@ -5,7 +5,8 @@ ghost use Rattle.std.specs.Char.{is_ascii_digit};
 ghost use Rattle.std.specs.List.{list_all};
 ghost use Rattle.std.specs.Option.{SomeIff};
 ghost use Rattle.std.specs.Str.Parse.{digits_value};
-ghost use Rattle.event_file.specs.Agrees.{Agrees};
+ghost use Rattle.trapeze_io.specs.Answers.{Answers};
+ghost use Rattle.event_file.specs.Unread.{fault_of};
 ghost use Rattle.event_file.specs.Known.{AreNumbered};
 ghost use Rattle.event_file.specs.Spelling.{bytes_of, client_of, count_of, function_of, id_of, label_of, value_of};
 
@@ -48,7 +49,7 @@ impl<'a> Model for Known<'a> {
 
 #[tactic(auto, unfolding(crate::specs::Spelling::label_of))]
 pub(crate) fn read_label(lattice: &Lattice, word: &[u8]) -> Result<Label, Unread>
-    ensures { Agrees (label_of lattice.now.names word.now) result }
+    ensures { Answers fault_of (label_of lattice.now.names word.now) result }
 {
     match lattice.find(word) {
         Some(label) => Ok(label),
@@ -59,7 +60,7 @@ pub(crate) fn read_label(lattice: &Lattice, word: &[u8]) -> Result<Label, Unread
 #[tactic(auto, unfolding(crate::specs::Spelling::client_of))]
 pub(crate) fn read_client(clients: &[Name], word: &[u8]) -> Result<u32, Unread>
     requires { AreNumbered clients.now }
-    ensures { Agrees (client_of clients.now word.now) result }
+    ensures { Answers fault_of (client_of clients.now word.now) result }
 {
     match number_among(clients, word) {
         Some(client) => Ok(client),
@@ -70,7 +71,7 @@ pub(crate) fn read_client(clients: &[Name], word: &[u8]) -> Result<u32, Unread>
 #[tactic(auto, unfolding(crate::specs::Spelling::function_of))]
 pub(crate) fn read_function(functions: &[Name], word: &[u8]) -> Result<u32, Unread>
     requires { AreNumbered functions.now }
-    ensures { Agrees (function_of functions.now word.now) result }
+    ensures { Answers fault_of (function_of functions.now word.now) result }
 {
     match number_among(functions, word) {
         Some(function) => Ok(function),
@@ -80,7 +81,7 @@ pub(crate) fn read_function(functions: &[Name], word: &[u8]) -> Result<u32, Unre
 
 #[tactic(auto, unfolding(crate::specs::Spelling::id_of))]
 pub(crate) fn read_id(word: &[u8]) -> Result<Name, Unread>
-    ensures { Agrees (id_of word.now) result }
+    ensures { Answers fault_of (id_of word.now) result }
 {
     match Name::read(word) {
         Some(id) => Ok(id),
@@ -91,7 +92,7 @@ pub(crate) fn read_id(word: &[u8]) -> Result<Name, Unread>
 /// The bytes that the word spells, if there are at most so many.
 #[tactic(auto, unfolding(crate::specs::Spelling::bytes_of))]
 pub(crate) fn read_bytes(alloc: Global, most: usize, word: &[u8]) -> Result<Bytes, Unread>
-    ensures { Agrees (bytes_of most word.now) result }
+    ensures { Answers fault_of (bytes_of most word.now) result }
 {
     let Some((b'x', digits)) = word.split_first() else {
         return Err(Unread::Fault(LineFault::BadHex));
@@ -112,7 +113,7 @@ pub(crate) fn read_bytes(alloc: Global, most: usize, word: &[u8]) -> Result<Byte
 /// The value that the word spells, `None` for an absent one.
 #[tactic(auto, unfolding(crate::specs::Spelling::value_of))]
 pub(crate) fn read_value(alloc: Global, word: &[u8]) -> Result<Option<Bytes>, Unread>
-    ensures { Agrees (value_of word.now) result }
+    ensures { Answers fault_of (value_of word.now) result }
 {
     if word == b"-".as_slice() {
         return Ok(None);
@@ -124,7 +125,7 @@ pub(crate) fn read_value(alloc: Global, word: &[u8]) -> Result<Option<Bytes>, Un
 /// The number of turns that the word's digits say.
 #[tactic(auto, unfolding(crate::specs::Spelling::count_of))]
 pub(crate) fn read_count(word: &[u8]) -> Result<u32, Unread>
-    ensures { Agrees (count_of word.now) result }
+    ensures { Answers fault_of (count_of word.now) result }
 {
     if word.len() > MOST_DIGITS || !are_digits(word) {
         return Err(Unread::Fault(LineFault::BadNumber));

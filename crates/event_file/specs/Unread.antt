@@ -1,6 +1,5 @@
--- What a step of reading a line answers.
-use Rattle.std.specs.Prelude.{Option, None, Some, Result}
-use Rattle.trapeze_io.specs.Answers.{Answers}
+-- Why a line could not be read: for a fault of it, or out of memory.
+use Rattle.std.specs.Prelude.{Option, None, Some}
 use Rattle.event_file.specs.declared.fault.LineFault.{LineFault}
 use Rattle.event_file.specs.declared.words.Unread.{Unread}
 use Rattle.event_file.specs.declared.words.Unread.TheVariants.{Fault, NoMemory}
@@ -9,7 +8,3 @@ use Rattle.event_file.specs.declared.words.Unread.TheVariants.{Fault, NoMemory}
 abbrev pub fault_of : Unread → Option LineFault
 fault_of (Fault fault) = Some fault
 fault_of NoMemory = None
-
--- the answer is the one that the definition gives, or out of memory
-abbrev pub Agrees : {A : Type 0} → Result A LineFault → Result A Unread → Type 0
-Agrees = Answers fault_of
