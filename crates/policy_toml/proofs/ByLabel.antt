@@ -1,33 +1,13 @@
 -- The limits of each label, which are within their ranges.
-use Rattle.std.proofs.Common.{◌≡◌, ℕ, ◌+◌, ◌==◌, ℤ, pos, Bool, true, false, cond, List, [], ◌∷◌, length, Option, Some, None, refl, sym, ◌∙◌, ap, subst}
+use Rattle.std.proofs.Common.{◌≡◌, ℕ, ◌==◌, Bool, true, false, cond, List, [], ◌∷◌, length, Option, Some, refl, sym, ◌∙◌, ap, subst}
 use Rattle.std.proofs.lemmas.List.Elements.{All-head, All-tail, All-map}
 use Rattle.std.proofs.lemmas.List.FromFn.{length-map-range_with_len}
-use Rattle.std.specs.Prelude.{All, find, not, option_map, position, unwrap_or}
+use Rattle.std.specs.Prelude.{All, find, option_map, unwrap_or}
 use Rattle.std.specs.List.{range_with_len, slice_index_or}
-use Rattle.label_limits.specs.Ranges.{first_outside, is_within, usual, AreWithin}
+use Rattle.label_limits.specs.Ranges.{usual, AreWithin}
 use Rattle.label_limits.specs.declared.limits.Limits.{Limits}
 use Rattle.policy_toml.specs.PolicyOf.{limits_written, limits_by_label}
 use Rattle.policy_toml.specs.Stages.{IsRowOf}
-
--- the first of six tests that fails, from 1
-unfoldable failing : Bool → Bool → Bool → Bool → Bool → Bool → Option ℕ
-failing a b c d e f = option_map (λ i. i + 1) (position not (a ∷ b ∷ c ∷ d ∷ e ∷ f ∷ []))
-
-tests : (a b c d e f : ℤ) → first_outside (a ∷ b ∷ c ∷ d ∷ e ∷ f ∷ [])
-    ≡ failing (is_within (1, 1000000) a) (is_within (1, 1000000000) b) (is_within (0, 65536) c) (is_within (1, 65536) d) (is_within (0, 1000000) e) (is_within (0, 1073741824) f)
-unfolding failing
-tests a b c d e f = refl
-
-none_fails : failing true true true true true true ≡ None
-unfolding failing
-none_fails = refl
-
-pub are_within : (l : Limits)
-    → is_within (1, 1000000) (pos l.quantum) ≡ true → is_within (1, 1000000000) (pos l.fuel) ≡ true → is_within (0, 65536) (pos l.pages) ≡ true
-    → is_within (1, 65536) (pos l.queue) ≡ true → is_within (0, 1000000) (pos l.facets) ≡ true → is_within (0, 1073741824) (pos l.bytes) ≡ true → AreWithin l
-are_within l quantum fuel pages queue facets bytes =
-    tests (pos l.quantum) (pos l.fuel) (pos l.pages) (pos l.queue) (pos l.facets) (pos l.bytes)
-    ∙ rw (quantum, fuel, pages, queue, facets, bytes) none_fails
 
 chosen : (b : Bool) (row : ℕ × Limits) (rest : Option (ℕ × Limits)) → AreWithin row.1
     → AreWithin (unwrap_or (option_map (λ row. row.1) rest) usual) → AreWithin (unwrap_or (option_map (λ row. row.1) (cond b (Some row) rest)) usual)

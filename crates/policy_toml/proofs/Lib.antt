@@ -1,4 +1,3 @@
 pub mod ByLabel
 pub mod Rows
-pub mod Search
 pub mod Whole

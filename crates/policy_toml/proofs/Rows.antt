@@ -1,34 +1,30 @@
 -- Rows read one by one, and the document of a text.
-use Rattle.std.proofs.Common.{◌≡◌, ◌≢◌, ℕ, zero, suc, ◌+◌, ◌<◌, ◌≤◌, cond, List, [], ◌∷◌, ◌++◌, Some, None, Ok, Err, length, map, get_or, drop, String, Global, string_bytes, nat_cmp, nat_eq, Less, Equal, inl, inr, refl, sym, ◌∙◌, ap, subst, append_assoc, true, false, arith}
-use Rattle.std.proofs.lemmas.List.{append-nil, length-append, drop_all}
-use Rattle.std.proofs.lemmas.Iterator.Adapters.{position_from-zero}
-use Rattle.std.proofs.lemmas.Option.{slice_get_cases}
+use Rattle.std.proofs.Common.{◌≡◌, ◌≢◌, ℕ, zero, suc, ◌+◌, ◌<◌, ◌≤◌, cond, List, [], ◌∷◌, ◌++◌, Some, None, Ok, Err, length, map, get_or, String, Global, string_bytes, nat_cmp, nat_eq, Less, refl, sym, ◌∙◌, ap, subst, append_assoc, true, false, arith}
+use Rattle.std.proofs.lemmas.List.{append-nil, length-append}
 use Rattle.std.proofs.lemmas.List.Elements.{All-append}
 use Rattle.std.proofs.lemmas.Bool.{le-leb, lt-leb}
-use Rattle.std.proofs.lemmas.Cmp.{nat_list_cmp_total}
 use Rattle.std.proofs.lemmas.Str.{IsUtf8-from_is_utf8, is_utf8-from_IsUtf8}
-use Rattle.std.specs.Prelude.{ok_or, Result, All, position, slice_get, Bool, if◌then◌else◌}
-use Rattle.std.specs.Cmp.{both_ways, tied_itself}
+use Rattle.std.specs.Prelude.{ok_or, Result, All, if◌then◌else◌}
 use Rattle.std.specs.Cmp.Lexicographic.{pointwise, slice_cmp}
-use Rattle.std.specs.List.{AllByRecursion, position_from}
+use Rattle.std.specs.List.{AllByRecursion}
 use Rattle.std.specs.List.Sorted.{IsStrictlySortedBy}
 use Rattle.std.specs.Map.{keys_of, lookup}
 use Rattle.std.specs.Str.{IsUtf8, is_utf8}
 use Rattle.std.specs.String.{string_cmp}
-use lib.Pointwise.{bytes_decides}
 use Rattle.toml.specs.Parse.{parse_document}
-use Rattle.toml.specs.Data.{Data, Members, no_members, member}
+use Rattle.toml.specs.Data.{Data, Members, member}
 use Rattle.toml.specs.View.{view, items_view, members_view}
 use Rattle.toml.specs.declared.value.Value.{Value}
-use Rattle.toml.proofs.Views.{Entry, items_view-drop}
+use Rattle.toml.proofs.Views.{Entry}
 use Rattle.label_lattice.specs.declared.label.Label.{Label}
+use Rattle.label_lattice.proofs.Halves.{apart_from}
 use Rattle.policy_toml.specs.declared.place.Part.{Part}
 use Rattle.policy_toml.specs.declared.error.PolicyError.{PolicyError}
 use Rattle.policy_toml.specs.declared.error.PolicyError.TheVariants.{Toml, OutOfRange}
 use Rattle.trapeze_io.specs.Names.{Ascend}
 use Rattle.policy_toml.specs.Places.{whole}
 use Rattle.trapeze_io.specs.Answers.{◌>>=◌}
-use Rattle.policy_toml.specs.Rows.{each_row, items_of, members_of, keys_in}
+use Rattle.policy_toml.specs.Rows.{each_row, members_of, keys_in}
 use Rattle.policy_toml.specs.Stages.{document_of, two_texts, at_most}
 
 -- what was found, and then what the rest reads as
@@ -59,19 +55,9 @@ SoFar-more read all x left found y so is = record {
       ∙ ap (λ n. after (found ++ y ∷ []) (each_row read n left)) (simp length-append (omega arith));
 }
 
--- a row with a fault
-pub SoFar-fault : {X Y : Type 0} (read : ℕ → X → Result Y PolicyError) (all : List X) (x : X) (left : List X) (found : List Y) (e : PolicyError)
-    → SoFar read all (x ∷ left) found → read (length found + 1) x ≡ Err e → each_row read 1 all ≡ Err e
-SoFar-fault read all x left found e so is =
-    so.so_far ∙ ap (λ r. after found (r >>= (λ y. each_row read (length found + 1 + 1) left >>= (λ ys. Ok (y ∷ ys))))) is
-
 -- no row is left
 pub SoFar-done : {X Y : Type 0} (read : ℕ → X → Result Y PolicyError) (all : List X) (found : List Y) → SoFar read all [] found → each_row read 1 all ≡ Ok found
 SoFar-done read all found so = so.so_far ∙ ap Ok (append-nil found)
-
--- the items from an index on
-pub items_left : (values : List Value) (i : ℕ) (d : Value) → i < length values → items_of (items_view (drop i values)) ≡ view (get_or values i d) ∷ items_of (items_view (drop (i + 1) values))
-items_left values i d below = ap items_of (items_view-drop values i d below)
 
 pub document_of_text : (bytes : List ℕ) → IsUtf8 bytes → document_of bytes ≡ ok_or (parse_document bytes) Toml
 document_of_text bytes text = ap (λ b. if b then ok_or (parse_document bytes) Toml else Err Toml) (is_utf8-from_IsUtf8 bytes text)
@@ -150,9 +136,6 @@ Named-more key P found y name d left all so is here = record {
   each = all_more P found y so.each here;
 }
 
-pub Named-done : {Y : Type 0} (key : Y → List ℕ) (P : Y → Type 0) (found : List Y) (all : Members) → Named key P found no_members all → Ascend (map key found)
-Named-done key P found all so = subst Ascend (sym so.names ∙ append-nil (map key found)) so.ascend
-
 pub rows_of-length : (es : List Entry) → length (members_of (members_view es)) ≡ length es
 rows_of-length [] = refl
 rows_of-length (e ∷ es) = ap suc (rows_of-length es)
@@ -167,12 +150,6 @@ many_rows most part es many = ap (λ b. if b then Ok tt else Err (OutOfRange (wh
 all_within : {X : Type 0} (P : X → Type 0) (xs : List X) (y : X) (ys : List X) → AllByRecursion P (xs ++ y ∷ ys) → P y
 all_within P [] y ys h = h.0
 all_within P (x ∷ xs) y ys h = all_within P xs y ys h.1
-
--- a key is no earlier one
-pub apart_from : (a k : List ℕ) → slice_cmp nat_cmp a k ≡ Less → pointwise nat_eq k a ≡ false
-apart_from a k less = both_ways (pointwise nat_eq k a) false
-    (λ e. let same : k ≡ a = (bytes_decides k a).0 e in let tied : slice_cmp nat_cmp a a ≡ Equal = tied_itself nat_list_cmp_total a in
-    let less_itself : slice_cmp nat_cmp a a ≡ Less = ap (slice_cmp nat_cmp a) (sym same) ∙ less in cc) (λ e. cc)
 
 new_name : {V : Type 0} (found : List (List ℕ × V)) (name : List ℕ) (more : List (List ℕ)) → Ascend (map (λ c. c.0) found ++ name ∷ more) → lookup (pointwise nat_eq name) found ≡ None
 unfolding IsStrictlySortedBy
@@ -203,20 +180,6 @@ pub Named-fresh : {V : Type 0} (P : List ℕ × V → Type 0) (es left all : Lis
     → Named (λ c. c.0) P found (members_view es) (members_view all) → es ≡ (key, v) ∷ left → name ≡ string_bytes key → lookup (pointwise nat_eq name) found ≡ None
 Named-fresh P es left all key v found name so step is =
     rw is (Named-new P found (string_bytes key) (view v) (members_view left) (members_view all) (subst (λ (x : List Entry). Named (λ c. c.0) P found (members_view x) (members_view all)) step so))
-
--- a search from the end finds none
-pub none_left : (test : List ℕ → Bool) (names : List (List ℕ)) (i number : ℕ) → length names ≤ i
-    → position_from test number (drop i names) ≡ position_from test 0 names → None ≡ position test names
-none_left test names i number past so =
-    ap (position_from test number) (sym (drop_all i names past)) ∙ so ∙ sym (position_from-zero test names)
-
--- P holds of what stands at an index, if it holds of each
-pub at_index : {X : Type 0} (P : X → Type 0) (xs : List X) (i : ℕ) (x : X) → All P xs → slice_get xs i ≡ Some x → P x
-at_index P xs i x each is =
-    elim (slice_get_cases xs i).1 [
-      | inl (y, below, here, at) ↦ let same : y ≡ x = cc in subst P (at ∙ same) (each i y below)
-      | inr (past, none) ↦ absurd (cc)
-    ]
 
 pub label_at_index : (labels : List Label) (n i : ℕ) (label : Label) → All (λ l. l < n) (map (λ l. l.number) labels) → i < length labels → label ≡ get_or labels i label → label.number < n
 label_at_index [] n i label each below is = absurd (omega arith)

@@ -1,10 +1,7 @@
 //! The functions of a policy.
 
-ghost use Rattle.std.specs.Prelude.{◌≡◌, ◌<◌, ◌≤◌, IfSome, Some, None, option_map, string_bytes, map, length, IfOk, All};
-ghost use Rattle.std.specs.Cmp.Lexicographic.{slice_cmp};
-ghost use Rattle.std.specs.Ordering.{nat_cmp};
+ghost use Rattle.std.specs.Prelude.{◌≡◌, ◌<◌, ◌≤◌, Some, None, option_map, string_bytes, map, length, IfOk, All};
 ghost use Rattle.toml.specs.View.{view, table_view};
-ghost use Rattle.label_lattice.specs.Order.{place_of};
 ghost use Rattle.trapeze_io.specs.Names.{Ascend};
 ghost use Rattle.policy_toml.specs.Rows.{Reads, each_row, members_of};
 ghost use Rattle.policy_toml.specs.Stages.{function_row, functions_of, function_at, IsFunction};
@@ -12,8 +9,8 @@ ghost use Rattle.policy_toml.specs.Stages.{function_row, functions_of, function_
 use crate::error::PolicyError;
 use crate::place::{Part, Place};
 use crate::tables::{at_most, member, name_of, text_at};
+use label_lattice::number_among;
 use std::alloc::Global;
-use std::cmp::Ordering;
 use std::marker::Model;
 use toml::{Table, Value};
 use trapeze_io::{Name, NoMemory};
@@ -99,26 +96,9 @@ pub fn function_at(
     ensures within { IfOk result (λ number. number < length functions.now) }
 {
     let name = text_at(table, key, place)?;
-    match number_of(functions, name.as_bytes()) {
+    match number_among(functions, name.as_bytes()) {
         Some(number) => Ok(number),
         None => Err(PolicyError::UnknownFunction(place)),
-    }
-}
-
-fn number_of(functions: &[Name], name: &[u8]) -> Option<u32>
-    requires ascend { Ascend functions.now }
-    requires few { length functions.now ≤ 256 }
-    ensures place { result ≡ place_of name.now functions.now }
-    ensures within { IfSome result (λ number. number < length functions.now) }
-{
-    let found = functions.binary_search_by(
-        |function: &Name| -> Ordering
-            ensures { result ≡ slice_cmp nat_cmp function.now name.entry.now }
-        { function.as_bytes().cmp(name) },
-    );
-    match found {
-        Ok(number) => Some(number as u32),
-        Err(_) => None,
     }
 }
 
