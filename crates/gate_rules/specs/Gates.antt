@@ -1,5 +1,5 @@
 -- Gates by their names, and what becomes of bytes that are released through one.
-use Rattle.std.specs.Prelude.{◌≢◌, ℕ, ◌<◌, Bool, ◌==◌, ◌&&◌, List, Option, Some, None, nat_eq, if◌then◌else◌, take, length, All, IsTrue}
+use Rattle.std.specs.Prelude.{◌≢◌, ℕ, ◌<◌, Bool, true, false, ◌==◌, ◌&&◌, List, Option, Some, None, nat_eq, if◌then◌else◌, take, length, All, IsTrue}
 use Rattle.std.specs.Int.{w32, to_le_bytes}
 use Rattle.std.specs.Cmp.Lexicographic.{pointwise}
 use Rattle.std.specs.List.{list_any, AllPairs}
@@ -37,6 +37,12 @@ abbrev pub passed : Order → ℕ → List ℕ → Option Gate → Passage
 passed order at bytes None = Unknown
 passed order at bytes (Some gate) =
     if flows order at gate.source.number then Pass gate (filtered gate.filter bytes) else Vanishes
+
+-- whether the bytes pass a gate
+abbrev pub is_pass : Passage → Bool
+is_pass (Pass gate bytes) = true
+is_pass Vanishes = false
+is_pass Unknown = false
 
 -- a gate leads from the source to the target, into the function
 abbrev pub leads : Label → Label → ℕ → Gate → Bool

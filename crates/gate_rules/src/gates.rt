@@ -1,9 +1,9 @@
 //! Gates by their names.
 
-ghost use Rattle.std.specs.Prelude.{◌≡◌, ◌<◌, ◌≤◌, ◌++◌, ◌∷◌, [], None, length, take, IfOk, OnOk, OnErr};
+ghost use Rattle.std.specs.Prelude.{◌≡◌, ◌<◌, ◌≤◌, ◌++◌, ◌∷◌, [], None, length, take, IfOk, OnOk, OnErr, IsTrue};
 ghost use Rattle.trapeze_io.specs.Sizes.{longest_value};
 ghost use Rattle.label_lattice.specs.Order.{count};
-ghost use Rattle.gate_rules.specs.Gates.{gate_of, filtered, has, leads, passed, AreFromLabels, AreNamedApart, AreUnderNames};
+ghost use Rattle.gate_rules.specs.Gates.{gate_of, filtered, has, leads, passed, is_pass, AreFromLabels, AreNamedApart, AreUnderNames};
 
 use crate::filter::Filter;
 use crate::gate::Gate;
@@ -80,6 +80,7 @@ impl Gates {
         requires labels { AreFromLabels (count lattice.now) self.now }
         requires few { length bytes.now ≤ longest_value }
         ensures passed { IfOk result (λ passage. passage ≡ passed lattice.now at.number bytes.now (gate_of name.now self.now)) }
+        ensures refused { OnErr result (IsTrue (is_pass (passed lattice.now at.number bytes.now (gate_of name.now self.now)))) }
         ensures apart { AreNamedApart self.now }
         ensures named { AreUnderNames self.now }
     {
