@@ -2,6 +2,8 @@
 //! prints labelled lines.
 #![tactic(auto)]
 
+ghost use Rattle.std.specs.Prelude.{◌≡◌, ◌≢◌};
+
 mod command;
 mod counts;
 mod exercise;
@@ -37,14 +39,21 @@ fn main(rt: HostRuntime) -> ExitCode {
                 }
             }
         }
-        // A word that is no text is of no form.
-        Err(error) if error.kind() == ErrorKind::InvalidData => {
-            return end(&mut err, Status::Usage);
-        }
-        Err(_) => return end(&mut err, Status::NoMemory),
+        Err(error) => return end(&mut err, unread(error.kind())),
     }
     let status = trapeze(rt.alloc(), words.as_slice(), &mut files, &mut out, &mut err);
     ExitCode::from(status.code())
+}
+
+/// How a program ends whose words could not be read. A word that is no text is of no form.
+fn unread(kind: ErrorKind) -> Status
+    ensures text { kind ≡ ErrorKind.InvalidData → result ≡ Status.Usage }
+    ensures memory { kind ≢ ErrorKind.InvalidData → result ≡ Status.NoMemory }
+{
+    match kind {
+        ErrorKind::InvalidData => Status::Usage,
+        _ => Status::NoMemory,
+    }
 }
 
 /// The end of a program whose words could not be read.
