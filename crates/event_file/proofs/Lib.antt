@@ -4,5 +4,4 @@ pub mod Go
 pub mod Hearing
 pub mod Advancing
 pub mod Due
-pub mod Callers
 pub mod Counts

@@ -8,5 +8,4 @@ pub mod FacetsLeft
 pub mod Scans
 pub mod Sizes
 pub mod Tallies
-pub mod Writes
 pub mod Puts

@@ -1,2 +1,1 @@
-pub mod Six
 pub mod Numbers
