@@ -29,7 +29,7 @@ event_fits : (i z w : ℕ) → i < 20000 → IsFit known (event_of i z w)
 event_fits i z w h =
     chosen (kind_of w == 0) (kind_of w == 1) (nat_le (kind_of w) 3) (Put (label_of w) (key_of w) (Some (body_of z))) (Put (label_of w) (key_of w) None)
     (Ask (label_of w) (detail_of w % 3) (function_of w) (id_of i) (body_of z)) (Turn (label_of w))
-    (label_fits w, lit≤ tt, lit≤ tt) (label_fits w, lit≤ tt, tt) (label_fits w, client_fits w, function_fits w, id_is_name i h, lit≤ tt) (label_fits w)
+    (label_fits w, lit≤ tt, lit≤ tt) (label_fits w, lit≤ tt, lit≤ tt) (label_fits w, client_fits w, function_fits w, id_is_name i h, lit≤ tt) (label_fits w)
 
 pub answer_fits : {E : Type 0} (r : Result Event E) (i z w : ℕ) → i < 20000 → IfOk r (λ event. event ≡ event_of i z w) → IfOk r (IsFit known)
 answer_fits (Ok event) i z w h e = subst (IsFit known) (sym e) (event_fits i z w h)

@@ -85,7 +85,7 @@ fn flow(alloc: Global, from: &[u8], to: &[u8]) -> Result<(Bytes, Bytes), NoMemor
 
 /// The limits of each label.
 fn limits(alloc: Global) -> Result<Vec<Limits>, NoMemory>
-    ensures { IfOk result (λ limits. limits.items ≡ limits) }
+    ensures { IfOk result (λ list. list.items ≡ limits) }
 {
     let narrow = narrow();
     match Vec::from_array(alloc, [narrow, narrow, narrow, narrow]) {
@@ -135,7 +135,7 @@ fn functions(alloc: Global) -> Result<(Vec<Name>, Vec<String>), NoMemory>
 
 /// The files of the functions.
 fn files(alloc: Global) -> Result<Vec<String>, NoMemory>
-    ensures { IfOk result (λ files. map (λ file. string_bytes file) files.items ≡ files) }
+    ensures { IfOk result (λ list. map (λ file. string_bytes file) list.items ≡ files) }
 {
     let [echo, lift, look] = three_files(alloc, "echo.wasm", "lift.wasm", "look.wasm")?;
     let [spin, store, twin] = three_files(alloc, "spin.wasm", "store.wasm", "twin.wasm")?;
