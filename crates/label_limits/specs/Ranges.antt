@@ -1,6 +1,6 @@
 -- The six limits of a label: their ranges, and which of six numbers is the first outside its own.
-use Rattle.std.specs.Prelude.{◌≡◌, ℕ, ℤ, pos, negsuc, ◌+◌, List, [], ◌∷◌, Bool, false, not, nat_le, ◌&&◌, Option, None, Some, option_map, position, map, nat_abs, Result, Ok, Err}
-use Rattle.std.specs.List.{zip, slice_index_or}
+use Rattle.std.specs.Prelude.{◌≡◌, ℕ, ℤ, pos, negsuc, ◌+◌, List, [], ◌∷◌, Bool, false, not, nat_le, ◌&&◌, Option, None, Some, option_map, position, map, Result, Ok, Err}
+use Rattle.std.specs.List.{zip}
 use Rattle.label_limits.specs.declared.limits.Limits.{Limits}
 use Rattle.label_limits.specs.declared.limits.LimitError.{LimitError}
 use Rattle.label_limits.specs.declared.limits.LimitError.TheVariants.{OutOfRange}
@@ -28,13 +28,6 @@ first_outside numbers = option_map (λ i. i + 1) (position (λ p. not (is_within
 -- the six numbers
 abbrev pub numbers_of : Limits → List ℤ
 numbers_of limits = map pos (limits.quantum ∷ limits.fuel ∷ limits.pages ∷ limits.queue ∷ limits.facets ∷ limits.bytes ∷ [])
-
--- the limits that six numbers say
-abbrev pub limits_with : List ℤ → Limits
-limits_with numbers = record { quantum = number 0; fuel = number 1; pages = number 2; queue = number 3; facets = number 4; bytes = number 5 }
-  where
-    number : ℕ → ℕ
-    number i = nat_abs (slice_index_or numbers i (pos 0))
 
 -- the limits of a label for which none are given
 abbrev pub usual : Limits
