@@ -13,7 +13,7 @@ use Rattle.event_file.specs.declared.fault.LineError.{LineError}
 use Rattle.event_file.specs.declared.next.Next.{Next}
 use Rattle.event_file.specs.declared.next.Next.TheVariants as next
 use Rattle.event_file.proofs.Split.{some_part}
-use Rattle.event_file.proofs.Go.{is_end}
+use Rattle.event_file.proofs.Continuing.{is_end}
 use Rattle.event_file.proofs.Within.{long_line, line_within}
 
 -- the first line is whole, and this rest follows it

@@ -9,7 +9,7 @@ use Rattle.event_file.specs.declared.fault.LineFault.TheVariants.{LineTooLong}
 use Rattle.event_file.specs.declared.next.Next.{Next}
 use Rattle.event_file.specs.declared.next.Next.TheVariants as next
 use Rattle.event_file.proofs.Split.{some_part}
-use Rattle.event_file.proofs.Go.{is_end}
+use Rattle.event_file.proofs.Continuing.{is_end}
 use Rattle.event_file.proofs.Within.{long_line}
 
 -- a whole line that says nothing leaves the word to those below it

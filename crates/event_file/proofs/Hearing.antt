@@ -12,7 +12,7 @@ use Rattle.event_file.specs.declared.next.Next.{Next}
 use Rattle.event_file.specs.declared.next.Next.TheVariants as next
 use Rattle.event_file.proofs.Split.{slice_split-append, splice, some_part}
 use Rattle.event_file.proofs.Within.{long_line}
-use Rattle.event_file.proofs.Go.{is_end, lines-append, skipped_lines, longer_by}
+use Rattle.event_file.proofs.Continuing.{is_end, lines-append, skipped_lines, longer_by}
 
 some_lines : (bytes : List ℕ) → 0 < length (lines_of bytes)
 some_lines bytes = some_part is_end bytes

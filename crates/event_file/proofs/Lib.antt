@@ -1,7 +1,7 @@
 pub mod Split
 pub mod Within
-pub mod Go
+pub mod Continuing
 pub mod Hearing
 pub mod Advancing
 pub mod Due
-pub mod Counts
+pub mod Numerals

@@ -19,7 +19,7 @@ use Rattle.std.specs.FinMap.{find, put, is_sorted, get-insert, get-from_entries,
 use Rattle.std.specs.FinMap.Entries.{find-put, by_order, below_all}
 use Rattle.std.proofs.lemmas.Map.Lookups.{exact_bytes}
 use Rattle.facet_list.specs.Rows.{Row, key_cmp, row_of, member, facet_at}
-use Rattle.facet_list.proofs.Truths.{first, second, both, less}
+use Rattle.facet_list.proofs.PassedTests.{first, second, both, less}
 use Rattle.facet_index.specs.Rows.{Entry, keyed, rows_in, row_lent, is_past, IsNextRow}
 
 -- the test of a query, and the order of the keys

@@ -17,7 +17,7 @@ use Rattle.facet_list.specs.Rows.{Member, Row, Rows, key_cmp, row_of, member, fa
 use Rattle.facet_list.specs.Walk.{is_after, facet_lent}
 use Rattle.facet_list.proofs.Sizes.{sized_at, below_at}
 use Rattle.facet_list.specs.Kept.{IsLeast}
-use Rattle.facet_list.proofs.Truths.{less_true}
+use Rattle.facet_list.proofs.PassedTests.{less_true}
 use Rattle.facet_index.specs.Rows.{is_past, IsNextRow, IsRest, IsFirst, IsLeastMember}
 
 below : (a b : ℕ) → nat_cmp a b ≡ Less → a < b

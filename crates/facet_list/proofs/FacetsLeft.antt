@@ -9,7 +9,7 @@ use Rattle.facet_list.specs.Store.{Slot, slot_cmp, Facet}
 use Rattle.facet_list.specs.Rows.{Rows, facet_at, facets_in}
 use Rattle.facet_list.specs.Walk.{is_after, facets_left, IsNext}
 use Rattle.facet_list.specs.Kept.{IsLeast}
-use Rattle.facet_list.proofs.Truths.{both, less_true, none_or}
+use Rattle.facet_list.proofs.PassedTests.{both, less_true, none_or}
 use Rattle.facet_list.proofs.Slots.{slots_total, exact_slot}
 use Rattle.facet_list.proofs.RowFacets.{find_facets_in, facets_in_sorted}
 

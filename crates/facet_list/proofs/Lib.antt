@@ -1,4 +1,4 @@
-pub mod Truths
+pub mod PassedTests
 pub mod Slots
 pub mod RowLaws
 pub mod FacetLaws

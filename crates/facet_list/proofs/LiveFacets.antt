@@ -11,7 +11,7 @@ use Rattle.label_limits.specs.declared.limits.Limits.{Limits}
 use Rattle.facet_list.specs.Store.{Slot, slot_cmp, Write, Facet}
 use Rattle.facet_list.specs.Rows.{Rows, rows_of, rows_after, facets_in}
 use Rattle.facet_list.specs.Room.{at_label, live_in, size, are_within, fits_in, fits}
-use Rattle.facet_list.proofs.Truths.{first, second, both, less}
+use Rattle.facet_list.proofs.PassedTests.{first, second, both, less}
 use Rattle.facet_list.proofs.Slots.{slots_total, exact_slot, seen_put}
 use Rattle.facet_list.proofs.RowLaws.{rows_of-push}
 use Rattle.facet_list.proofs.RowFacets.{facets_in_sorted, facets_in_of, facets_in_after}

@@ -10,7 +10,7 @@ use Rattle.std.specs.FinMap.{put, find, is_sorted, get-entries, get-from_entries
 use Rattle.std.specs.FinMap.Entries.{find-put, same_entries, is_sorted-put, below_all}
 use Rattle.facet_list.specs.Store.{Slot, slot_cmp, Write, Facet, facets, written_at, last_at}
 use Rattle.facet_list.specs.Rows.{Row, Rows, key_cmp, rows_after, rows_from, rows_of, member, facet_at, facets_of, facets_in}
-use Rattle.facet_list.proofs.Truths.{first, second, less}
+use Rattle.facet_list.proofs.PassedTests.{first, second, less}
 use Rattle.facet_list.proofs.Slots.{slots_total, exact_slot}
 use Rattle.facet_list.proofs.FacetLaws.{ties, facet_at-after, find_facets, facets_sorted}
 

@@ -14,9 +14,9 @@ use Rattle.host_rules.specs.Stores.{read}
 use Rattle.host_rules.specs.Wishes.{Wish, Inputs, Reads, Writes, Sends, Raises, Replies, OwnLabels, Releases, wish}
 use Rattle.host_rules.specs.Calls.{Nothing, AWrite, Called, Resumed, RaisedTo, Refused, resumes, written_out, copied, read_out, raised, answer_lines, granted, after_wish, shim}
 use Rattle.host_rules.specs.Views.{visible}
-use Rattle.host_rules.proofs.Lists.{of_branch}
+use Rattle.host_rules.proofs.SetAt.{of_branch}
 use Rattle.host_rules.proofs.Stores.{AreAlike, read_alike, fits_alike}
-use Rattle.host_rules.proofs.Agrees.{hidden_line}
+use Rattle.host_rules.proofs.SameToObserver.{hidden_line}
 
 module _ {T : Type 0} (P : Rules) (M : Guest T) (c : ℕ) where
   -- lines that whoever does not see c does not see

@@ -7,7 +7,7 @@ use Rattle.host_rules.specs.Rules.{Rules, IsOrdered, clearance}
 use Rattle.host_rules.specs.States.{Request, Serving, Activation, State, Serves, keep, push, leave, count_turn, count_request, same_request, answer}
 use Rattle.host_rules.specs.Regular.{IsTaken, IsRegular}
 use Rattle.host_rules.specs.Views.{Same}
-use Rattle.host_rules.proofs.Lists.{at_set, hidden_set, same_set}
+use Rattle.host_rules.proofs.SetAt.{at_set, hidden_set, same_set}
 use Rattle.host_rules.proofs.Stores as stores
 
 -- a visible label is not a hidden one

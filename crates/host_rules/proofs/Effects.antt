@@ -16,10 +16,10 @@ use Rattle.host_rules.specs.Effects.{write, arrive, send, reply, let_in, apply}
 use Rattle.host_rules.specs.Play.{play}
 use Rattle.host_rules.specs.Regular.{IsRegular}
 use Rattle.host_rules.specs.Views.{visible, Same}
-use Rattle.host_rules.proofs.Lists.{of_branch}
+use Rattle.host_rules.proofs.SetAt.{of_branch}
 use Rattle.host_rules.proofs.Stores.{fits_alike}
 use Rattle.host_rules.proofs.Changes.{none_some, IsSound, sound_none, sound_here, sound_above, kept_push, regular_push, hidden_push, seen_push, regular_keep, hidden_keep, seen_keep, regular_answer, hidden_answer, seen_answer}
-use Rattle.host_rules.proofs.Agrees.{hidden_above, hidden_line, Agree, same_refl, agree_still, agree_trans, agree_branch, either_way, Follows, follows_quiet, follows_still, follows_branch}
+use Rattle.host_rules.proofs.SameToObserver.{hidden_above, hidden_line, Agree, same_refl, agree_still, agree_trans, agree_branch, either_way, Follows, follows_quiet, follows_still, follows_branch}
 
 module _ {T : Type 0} (P : Rules) (o : ℕ) where
   -- an arrival

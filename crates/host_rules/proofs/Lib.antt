@@ -1,7 +1,8 @@
-pub mod Lists
+pub mod FilteredLists
+pub mod SetAt
 pub mod Stores
 pub mod Changes
-pub mod Agrees
+pub mod SameToObserver
 pub mod Effects
 pub mod Calls
 pub mod Stints

@@ -23,8 +23,8 @@ use Rattle.host_rules.specs.Turns.{End, Ended, Trapped, Raised, Spent, Stint, af
 use Rattle.host_rules.specs.Play.{step, play, releases, items_of}
 use Rattle.host_rules.specs.Views.{event_label, visible_events, visible_items, view}
 use Rattle.host_rules.specs.Laws.{LooksLike, SeesTheSame, HidesEventsWhole, IsNoninterferingAlone, IsWithoutReleases}
-use Rattle.host_rules.proofs.Lists.{of_branch}
-use Rattle.host_rules.proofs.Agrees.{same_refl}
+use Rattle.host_rules.proofs.SetAt.{of_branch}
+use Rattle.host_rules.proofs.SameToObserver.{same_refl}
 use Rattle.host_rules.proofs.Effects.{arrive_outs, write_outs, reply_outs, send_outs}
 use Rattle.host_rules.proofs.Runs.{noninterfering, hides_events}
 

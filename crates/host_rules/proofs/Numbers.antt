@@ -13,7 +13,7 @@ use Rattle.host_rules.specs.Effects.{write, arrive, reply, apply}
 use Rattle.host_rules.specs.Turns.{End, Ended, Trapped, Raised, Spent, Stint, after_call, after_unit, stint, given, closing, run, run_from, turn_of}
 use Rattle.host_rules.specs.Play.{step}
 use Rattle.host_rules.specs.Laws.{StaysOrRises, RaisesByOne}
-use Rattle.host_rules.proofs.Lists.{at_set, of_branch}
+use Rattle.host_rules.proofs.SetAt.{at_set, of_branch}
 
 module _ {T : Type 0} (P : Rules) where
   -- the numbers are those of s

@@ -14,9 +14,9 @@ use Rattle.host_rules.specs.Play.{step, play, trace, whole, items_of}
 use Rattle.host_rules.specs.Regular.{IsRegular}
 use Rattle.host_rules.specs.Views.{visible_writes, event_label, item_label, visible, visible_items, Same, view}
 use Rattle.host_rules.specs.Laws.{HidesEvents, DoesTheSame, GrantsTheSame, KeepsInEitherOrder, KeepsRegular, IsNoninterfering, TracesGrow}
-use Rattle.host_rules.proofs.Lists.{filter_twice, filters_commute}
+use Rattle.host_rules.proofs.FilteredLists.{filter_twice, filters_commute}
 use Rattle.host_rules.proofs.Stores.{facets_alike}
-use Rattle.host_rules.proofs.Agrees.{Agree, same_refl, agree_still, agree_move, play_append}
+use Rattle.host_rules.proofs.SameToObserver.{Agree, same_refl, agree_still, agree_move, play_append}
 use Rattle.host_rules.proofs.Calls.{shim_alike}
 use Rattle.host_rules.proofs.Turns.{hidden_step, seen_step}
 

@@ -8,7 +8,7 @@ use Rattle.host_rules.specs.Effects.{apply}
 use Rattle.host_rules.specs.Turns.{End, Ended, Trapped, Raised, Spent, Stint, stops, after_call, after_unit, stint}
 use Rattle.host_rules.specs.Regular.{IsRegular}
 use Rattle.host_rules.specs.Views.{Same}
-use Rattle.host_rules.proofs.Agrees.{Agree, agree_still, agree_lines, agree_move, Follows, follows_still, follows_next, follows_lines}
+use Rattle.host_rules.proofs.SameToObserver.{Agree, agree_still, agree_lines, agree_move, Follows, follows_still, follows_next, follows_lines}
 use Rattle.host_rules.proofs.Effects.{kept_apply, hidden_apply, seen_apply}
 use Rattle.host_rules.proofs.Calls.{IsCalled, shim_at, shim_alike}
 

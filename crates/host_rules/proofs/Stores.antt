@@ -15,7 +15,7 @@ use Rattle.facet_list.proofs.Slots.{noninterfering}
 use Rattle.host_rules.specs.Rules.{Rules, IsOrdered}
 use Rattle.host_rules.specs.Stores.{read, fits, facet_line, facet_lines}
 use Rattle.host_rules.specs.Views.{visible_writes, HaveSameRows, visible}
-use Rattle.host_rules.proofs.Lists.{kept_by_both}
+use Rattle.host_rules.proofs.FilteredLists.{kept_by_both}
 
 -- writes with the same rows have the same facets
 facets_same : (w v : List Write) → HaveSameRows w v → facets w ≡ facets v

@@ -19,7 +19,7 @@ use Rattle.host_rules.specs.Play.{ask, step}
 use Rattle.host_rules.specs.Regular.{IsTaken, IsRegular}
 use Rattle.host_rules.specs.Views.{item_label, Same}
 use Rattle.host_rules.proofs.Changes.{some_same, IsSound, sound_here, sound_leave, sound_above, regular_push, hidden_push, seen_push, regular_leave, hidden_leave, seen_leave, regular_turn, hidden_turn, seen_turn, regular_request, hidden_request, seen_request}
-use Rattle.host_rules.proofs.Agrees.{hidden_above, hidden_line, Agree, same_refl, same_trans, agree_branch, agree_move, Follows, follows_quiet, follows_next, follows_branch}
+use Rattle.host_rules.proofs.SameToObserver.{hidden_above, hidden_line, Agree, same_refl, same_trans, agree_branch, agree_move, Follows, follows_quiet, follows_next, follows_branch}
 use Rattle.host_rules.proofs.Effects.{alike_here, any_arrive, seen_write, any_let_in, arrive_follows, write_follows, let_in_follows}
 use Rattle.host_rules.proofs.Stints.{IsAbove, good_stint, hidden_stint, Between, seen_stint}
 

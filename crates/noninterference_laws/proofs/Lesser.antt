@@ -2,7 +2,7 @@
 use Rattle.std.proofs.Common.{◌≡◌, Bool, true, ◌∙◌}
 use Rattle.label_lattice.specs.Reach.{flows}
 use Rattle.trapeze_lines.specs.declared.line.Line.{Line}
-use Rattle.host_rules.proofs.Lists.{kept_by_both, filter_twice, filters_commute}
+use Rattle.host_rules.proofs.FilteredLists.{kept_by_both, filter_twice, filters_commute}
 use Rattle.std.proofs.lemmas.List.Elements.{filter-append}
 use Rattle.trapeze_lines.specs.Lines.{is_of_run}
 use Rattle.noninterference_laws.specs.Observers.{IsSeenAgain, SeesOfTheOther, GoesByPieces, IsPrintedOrSeenFirst}

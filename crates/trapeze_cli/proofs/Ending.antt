@@ -4,7 +4,7 @@ use Rattle.std.specs.declared.option.Option.{Option}
 use Rattle.std.specs.Io.KnownBytes.{append_known}
 use Rattle.trapeze_io.specs.Causes.{Rose}
 use Rattle.trapeze_io.specs.Seen.{Seen, Held, OpenFile, OpensOne, OpensNone, Gives, started}
-use Rattle.trapeze_io.proofs.Moved.{Gives-nil, OpensOne-read}
+use Rattle.trapeze_io.proofs.CallsInTurn.{Gives-nil, OpensOne-read}
 use Rattle.trapeze_cli.specs.declared.status.Status.{Status}
 use Rattle.trapeze_cli.specs.declared.status.Status.TheVariants as status
 use Rattle.trapeze_cli.specs.declared.status.Input.TheVariants as inputs

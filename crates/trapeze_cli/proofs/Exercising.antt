@@ -15,7 +15,7 @@ use Rattle.host_rules.specs.Policies.{rules_of}
 use Rattle.host_rules.specs.States.{State, Happens, start}
 use Rattle.host_rules.specs.Stores.{facet_lines}
 use Rattle.host_rules.specs.Play.{step, play, trace, whole, items_of}
-use Rattle.host_rules.proofs.Agrees.{play_append}
+use Rattle.host_rules.proofs.SameToObserver.{play_append}
 use Rattle.trapeze_exercise.specs.BuiltIn.{built_in, built_in_modules}
 use Rattle.trapeze_exercise.specs.Generated.{generated, first_generated, all_generated}
 use Rattle.trapeze_cli.specs.declared.counts.Counts.{Counts}

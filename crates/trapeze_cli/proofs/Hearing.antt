@@ -10,7 +10,7 @@ use Rattle.event_file.specs.declared.fault.LineFault.{LineFault}
 use Rattle.event_file.specs.declared.fault.LineFault.TheVariants.{LineTooLong}
 use Rattle.event_file.proofs.Split.{slice_split-append, splice}
 use Rattle.event_file.proofs.Within.{long_line}
-use Rattle.event_file.proofs.Go.{is_end}
+use Rattle.event_file.proofs.Continuing.{is_end}
 use Rattle.event_file.proofs.Hearing.{counting-cons}
 
 -- entries that begin with these

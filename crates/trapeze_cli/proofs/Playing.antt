@@ -8,7 +8,7 @@ use Rattle.event_file.specs.declared.entry.Event.{Event}
 use Rattle.trapeze_lines.specs.declared.line.Line.{Line}
 use Rattle.host_rules.specs.States.{State, Happens}
 use Rattle.host_rules.specs.Play.{step, play, trace, items_of}
-use Rattle.host_rules.proofs.Agrees.{play_append}
+use Rattle.host_rules.proofs.SameToObserver.{play_append}
 use Rattle.trapeze_cli.specs.declared.halt.Halt.{Halt}
 use Rattle.trapeze_cli.specs.declared.halt.Halt.TheVariants.{NoMemory}
 use Rattle.trapeze_cli.specs.Runs.{Setting}

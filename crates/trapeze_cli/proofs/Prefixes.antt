@@ -3,7 +3,7 @@ use Rattle.std.proofs.Common.{ℕ, List, [], ◌++◌, refl, sym, ap, subst, ◌
 use Rattle.std.specs.declared.option.Option.{Option}
 use Rattle.std.specs.Io.KnownBytes.{append_known}
 use Rattle.trapeze_io.specs.Sinks.{AppendsPart}
-use Rattle.trapeze_io.proofs.Moved.{append_known-append, append_known-nil}
+use Rattle.trapeze_io.proofs.CallsInTurn.{append_known-append, append_known-nil}
 use Rattle.trapeze_cli.specs.declared.halt.Halt.{Halt}
 use Rattle.trapeze_cli.specs.declared.halt.Halt.TheVariants.{Write, NoMemory}
 use Rattle.trapeze_cli.specs.Appends.{AppendsAll, AppendsPrefix, AppendsLess}

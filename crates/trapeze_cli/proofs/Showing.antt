@@ -8,7 +8,7 @@ use Rattle.trapeze_lines.specs.Lines.{is_of_run, run_kinds}
 use Rattle.trapeze_lines.specs.Texts.{text, line_text}
 use Rattle.host_rules.specs.Rules.{Rules}
 use Rattle.host_rules.specs.Views.{visible}
-use Rattle.host_rules.proofs.Lists.{filters_commute}
+use Rattle.host_rules.proofs.FilteredLists.{filters_commute}
 use Rattle.trapeze_cli.specs.declared.shown.Shown.{Shown}
 use Rattle.trapeze_cli.specs.declared.shown.Shown.TheVariants.{RunKinds, AllKinds, VisibleTo}
 use Rattle.trapeze_cli.specs.Runs.{Setting, shown_lines}

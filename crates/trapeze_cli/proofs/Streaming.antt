@@ -6,7 +6,7 @@ use Rattle.std.proofs.lemmas.List.{length-take, length-take-le, take-append-le}
 use Rattle.std.proofs.lemmas.Grind.{flat_map-append}
 use Rattle.std.specs.Io.KnownBytes.{append_known}
 use Rattle.trapeze_io.specs.Seen.{OpenFile, Gives, IsAtEnd}
-use Rattle.trapeze_io.proofs.Moved.{Gives-trans}
+use Rattle.trapeze_io.proofs.CallsInTurn.{Gives-trans}
 use Rattle.wasm_semantics.specs.Threads.{Thread}
 use Rattle.event_file.specs.Script.{Entries, after, entries_of}
 use Rattle.event_file.specs.Reader.{Reader, entries_with}

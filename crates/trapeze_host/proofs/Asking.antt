@@ -11,8 +11,8 @@ use Rattle.trapeze_host.specs.Loans.{Loan}
 use Rattle.trapeze_host.specs.Requests.{taken_of, answered_of}
 use Rattle.trapeze_host.specs.Keeping.{state_of, Keeps, IsServed, IsFitActivation}
 use Rattle.trapeze_host.proofs.Keeping.{for_state}
-use Rattle.trapeze_host.proofs.Tables.{by_same}
-use Rattle.trapeze_host.proofs.Counts.{AreMore}
+use Rattle.trapeze_host.proofs.SetPlaces.{by_same}
+use Rattle.trapeze_host.proofs.MoreRequests.{AreMore}
 
 module _ (r t : Requests) (l n : ℕ) (number : n ≡ taken_of r l + 1) (taken : taken_of t ≡ set_at (taken_of r) l n) where
   raised_at : (m : ℕ) → (taken_of r m ≤ taken_of t m) × (taken_of t m ≤ taken_of r m + 1)

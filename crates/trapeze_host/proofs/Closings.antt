@@ -22,7 +22,7 @@ use Rattle.trapeze_host.specs.Loans.{Loan, rules_in, module_in}
 use Rattle.trapeze_host.specs.Keeping.{activation_of, Keeps, IsFitActivation}
 use Rattle.trapeze_host.specs.Turning.{run_ends, run_waits, run_closes, IsRun}
 use Rattle.trapeze_host.proofs.Keeping.{keeps_list, list_here}
-use Rattle.trapeze_host.proofs.Tables.{by_same}
+use Rattle.trapeze_host.proofs.SetPlaces.{by_same}
 
 pub all_drop : {A : Type 0} (P : A → Type 0) (xs : List A) → All P xs → All P (drop 1 xs)
 all_drop P [] h = h

@@ -14,7 +14,7 @@ use Rattle.trapeze_host.specs.declared.kept.Kept.{Kept}
 use Rattle.trapeze_host.specs.Adding.{AddsPart}
 use Rattle.trapeze_host.specs.Loans.{Loan}
 use Rattle.trapeze_host.specs.Keeping.{activation_of, state_of, Keeps, Made, Makes}
-use Rattle.trapeze_host.proofs.Tables.{set_table}
+use Rattle.trapeze_host.proofs.SetPlaces.{set_table}
 
 -- no line was appended
 pub no_part : (lines before : List Line) → AddsPart lines before before

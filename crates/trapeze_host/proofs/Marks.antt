@@ -11,7 +11,7 @@ use Rattle.std.proofs.Math.ListN.{set}
 use Rattle.std.proofs.lemmas.Nat.Bits.{bit_at-lt, bit_at_or, bit_at-pow_same, bit_at-pow_other}
 use Rattle.std.proofs.lemmas.List.{get_or-set_same, get_or-set_other, get_or-map, get_or_read, map-set, length-set, length-map}
 use Rattle.trapeze_host.specs.Requests.{is_marked, marks_of, taken_of, answered_of, HasRoom}
-use Rattle.trapeze_host.proofs.Tables.{by_same, set_place}
+use Rattle.trapeze_host.proofs.SetPlaces.{by_same, set_place}
 
 -- the word of a number, with the bit of this number set
 abbrev pub with_mark : List ℕ → ℕ → List ℕ

@@ -32,7 +32,7 @@ use Rattle.trapeze_host.specs.Keeping.{Keeps}
 use Rattle.trapeze_host.specs.Turning.{run_of, run_calls, run_stint, end_of, ends_so, Owes, LeadsOn}
 use Rattle.trapeze_host.proofs.Keeping.{no_part}
 use Rattle.trapeze_host.proofs.Stints.{owes_then, owes_part, owes_end}
-use Rattle.trapeze_host.proofs.Going.{here_spent, here_done, here_trapped, here_asks}
+use Rattle.trapeze_host.proofs.EngineRuns.{here_spent, here_done, here_trapped, here_asks}
 
 -- of a stint of so many units a part is done, and the engine has run once more
 module _ {F : Type 0} (rows : F → Rows) (law : GoesByRuns) (loan : Loan) (r : Run) (before : Option Thread) (first : Sandbox) (s : State Thread) (k : Kept F) (lines between : List Line) (whole given : ℕ) (whole_is : whole ≡ given)

@@ -32,9 +32,9 @@ use Rattle.trapeze_host.specs.declared.kept.Kept.{Kept}
 use Rattle.trapeze_host.specs.Loans.{Loan, rules_in, guest_in, module_in}
 use Rattle.trapeze_host.specs.Keeping.{activation_of, state_of, Keeps, Makes, IsFitActivation, IsSound}
 use Rattle.trapeze_host.specs.Turning.{Owes, ends_so, GoesOn, IsRun}
-use Rattle.trapeze_host.proofs.Tables.{set_table}
+use Rattle.trapeze_host.proofs.SetPlaces.{set_table}
 use Rattle.trapeze_host.proofs.Keeping.{for_state, then_makes, keeps_list, list_here}
-use Rattle.trapeze_host.proofs.Lists.{sound_list}
+use Rattle.trapeze_host.proofs.SoundLists.{sound_list}
 use Rattle.trapeze_host.proofs.Closings.{all_front, front_is, rest_here, set_twice, set_here}
 
 -- a stint and then the end of its turn

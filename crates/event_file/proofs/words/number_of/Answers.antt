@@ -1,7 +1,7 @@
 use Rattle.std.proofs.Common.{ap, sym, subst, ◌∙◌}
 use Rattle.std.specs.Char.{is_ascii_digit}
 use Rattle.std.specs.List.{list_all}
-use Rattle.event_file.proofs.Counts.{IsCount, digits_are_text, unparsed_digits}
+use Rattle.event_file.proofs.Numerals.{IsCount, digits_are_text, unparsed_digits}
 use Rattle.event_file.proofs.words.number_of.Goals as goal
 
 pub returns-in_default : goal.returns-in_default

@@ -1,4 +1,4 @@
-use Rattle.host_rules.proofs.Agrees.{same_refl, same_sym, same_trans}
+use Rattle.host_rules.proofs.SameToObserver.{same_refl, same_sym, same_trans}
 use Rattle.host_rules.proofs.laws.sameness_is_an_equivalence.Goals as goal
 
 pub returns : goal.returns

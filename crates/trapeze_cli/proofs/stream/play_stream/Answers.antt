@@ -1,7 +1,7 @@
 use Rattle.std.proofs.Common.{◌≡◌, ◌++◌, [], ◌∙◌, sym, subst, arith, Ok, Err, Some, refl, take, drop, length, length-append}
 use Rattle.std.proofs.lemmas.List.{length-take-le}
 use Rattle.trapeze_io.specs.Seen.{Gives}
-use Rattle.trapeze_io.proofs.Moved.{Gives-nil, Gives-last, Gives-trans, OpensNone-same, OpensNone-trans}
+use Rattle.trapeze_io.proofs.CallsInTurn.{Gives-nil, Gives-last, Gives-trans, OpensNone-same, OpensNone-trans}
 use Rattle.host_rules.specs.States.{start}
 use Rattle.trapeze_host.specs.Standing.{modules_lent, known_in}
 use Rattle.trapeze_cli.specs.Played.{events_of}

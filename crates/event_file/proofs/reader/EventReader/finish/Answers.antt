@@ -1,6 +1,6 @@
 use Rattle.std.proofs.Common.{true, ap}
 use Rattle.event_file.specs.Reader.{Reader}
-use Rattle.event_file.proofs.Go.{completes_entry}
+use Rattle.event_file.proofs.Continuing.{completes_entry}
 use Rattle.event_file.proofs.Advancing.{within_same}
 use Rattle.event_file.proofs.reader.EventReader.finish.Goals as goal
 

@@ -8,7 +8,7 @@ use Rattle.std.specs.Prelude.{option_map}
 use Rattle.trapeze_host.specs.Keeping.{serving_of, activation_of, Keeps, IsFitActivation}
 use Rattle.trapeze_host.proofs.Adding.{all_push}
 use Rattle.trapeze_host.proofs.Keeping.{by_line, keeps_list, keeps_same_list}
-use Rattle.trapeze_host.proofs.Lists.{sound_list}
+use Rattle.trapeze_host.proofs.SoundLists.{sound_list}
 use Rattle.trapeze_host.proofs.Arrivals.{full, room, pushed, ok_or_err, err_when}
 use Rattle.trapeze_host.proofs.kept.Kept.arrive.Goals as goal
 

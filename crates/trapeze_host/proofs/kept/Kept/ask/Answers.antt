@@ -6,7 +6,7 @@ use Rattle.host_rules.specs.Effects.{arrive}
 use Rattle.trapeze_host.specs.declared.kept.Serving.{Serving}
 use Rattle.trapeze_host.specs.Loans.{rules_in}
 use Rattle.trapeze_host.specs.Keeping.{IsServed, Makes}
-use Rattle.trapeze_host.proofs.Counts.{sound_more}
+use Rattle.trapeze_host.proofs.MoreRequests.{sound_more}
 use Rattle.trapeze_host.proofs.Asking.{taken_more, taken_raised, taken_here, keeps_taken, fit_asked}
 use Rattle.trapeze_host.proofs.kept.Kept.ask.Goals as goal
 

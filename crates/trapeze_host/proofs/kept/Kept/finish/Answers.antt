@@ -7,7 +7,7 @@ use Rattle.wasm_semantics.specs.Threads.{Thread}
 use Rattle.host_rules.specs.States.{State, told, leave}
 use Rattle.trapeze_host.specs.Keeping.{serving_of, IsFitActivation}
 use Rattle.trapeze_host.proofs.Keeping.{by_line}
-use Rattle.trapeze_host.proofs.Lists.{sound_list}
+use Rattle.trapeze_host.proofs.SoundLists.{sound_list}
 use Rattle.trapeze_host.proofs.Closings.{all_drop, keeps_left}
 use Rattle.trapeze_host.proofs.kept.Kept.finish.Goals as goal
 

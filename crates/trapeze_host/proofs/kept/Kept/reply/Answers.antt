@@ -9,7 +9,7 @@ use Rattle.trapeze_host.specs.Loans.{rules_in}
 use Rattle.trapeze_host.specs.Requests.{request_of}
 use Rattle.trapeze_host.specs.Keeping.{serving_of, Made, Makes}
 use Rattle.trapeze_host.proofs.Keeping.{by_line, then_makes, none_part}
-use Rattle.trapeze_host.proofs.Counts.{sound_more}
+use Rattle.trapeze_host.proofs.MoreRequests.{sound_more}
 use Rattle.trapeze_host.proofs.Replies.{reached, reply_vanishes, reply_reaches, keeps_answered}
 use Rattle.trapeze_host.proofs.kept.Kept.reply.Goals as goal
 

@@ -6,7 +6,7 @@ use Rattle.trapeze_host.specs.Adding.{AddsPart}
 use Rattle.trapeze_host.specs.Loans.{rules_in, guest_in, module_in}
 use Rattle.trapeze_host.specs.Keeping.{Makes}
 use Rattle.trapeze_host.specs.Turning.{run_of, end_of}
-use Rattle.trapeze_host.proofs.Counts.{run_more, same_more}
+use Rattle.trapeze_host.proofs.MoreRequests.{run_more, same_more}
 use Rattle.trapeze_host.proofs.Keeping.{part_then}
 use Rattle.trapeze_host.proofs.Running.{closed, given_is}
 use Rattle.trapeze_host.proofs.kept.Kept.run.Goals as goal

@@ -7,9 +7,9 @@ use Rattle.sandbox.specs.Going.{Ends, Asks}
 use Rattle.trapeze_host.specs.Loans.{module_in}
 use Rattle.trapeze_host.specs.Turning.{IsFitReached}
 use Rattle.trapeze_host.proofs.Stints.{owed}
-use Rattle.trapeze_host.proofs.Going.{asks_some}
+use Rattle.trapeze_host.proofs.EngineRuns.{asks_some}
 use Rattle.trapeze_host.proofs.Owing.{stops_spent, stops_done, stops_trapped, stops_short, asks_goes, asks_ends, asks_short}
-use Rattle.trapeze_host.proofs.Counts.{run_more, same_more, numbers_then, members_then}
+use Rattle.trapeze_host.proofs.MoreRequests.{run_more, same_more, numbers_then, members_then}
 use Rattle.trapeze_host.proofs.kept.Kept.stint.Goals as goal
 
 pub units-init : goal.units-init

@@ -10,7 +10,7 @@ use Rattle.trapeze_host.specs.declared.kept.Activation.{Activation}
 use Rattle.trapeze_host.specs.Keeping.{serving_of, activation_of, IsFitActivation}
 use Rattle.trapeze_host.proofs.Adding.{all_push}
 use Rattle.trapeze_host.proofs.Keeping.{by_line}
-use Rattle.trapeze_host.proofs.Lists.{sound_list}
+use Rattle.trapeze_host.proofs.SoundLists.{sound_list}
 use Rattle.trapeze_host.proofs.Closings.{all_drop, replaced_turned, keeps_turned, fit_run}
 use Rattle.trapeze_host.proofs.kept.Kept.wait.Goals as goal
 

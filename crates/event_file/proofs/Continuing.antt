@@ -1,4 +1,4 @@
--- How the answers of a reader go through the entries.
+-- An answer of a reader continues the entries of the bytes that it holds and is fed.
 use Rattle.std.proofs.Common.{◌≡◌, ◌≢◌, ℕ, suc, ◌+◌, ◌<◌, Bool, true, List, [], ◌∷◌, ◌++◌, length, Option, None, Some, Result, Ok, Err, ◌⊎◌, inl, inr, refl, sym, ap, ◌∙◌, arith, length-append, nat_eq, take}
 use Rattle.std.proofs.lemmas.List.{append-nil, take_all}
 use borrow.Author.Tests.{ltb-true, lt-ltb}

@@ -1,8 +1,6 @@
--- Filters, tables and options.
-use Rattle.std.proofs.Common.{◌≡◌, ℕ, Bool, true, false, cond, List, [], ◌∷◌, refl, sym, ◌∙◌, ap}
-use Rattle.std.specs.Prelude.{filter, ◌==◌, ◌&&◌}
-use Rattle.std.proofs.lemmas.Bool.Decides.{Decides-eqb}
-use Rattle.host_rules.specs.States.{set_at}
+-- Lists that are filtered twice.
+use Rattle.std.proofs.Common.{◌≡◌, Bool, true, false, cond, List, [], ◌∷◌, refl, sym, ◌∙◌, ap}
+use Rattle.std.specs.Prelude.{filter, ◌&&◌}
 
 -- a filter that keeps all that a later one looks for changes nothing for it
 pub kept_by_both : {A : Type 0} (p q : A → Bool) → ((x : A) → q x ≡ true → p x ≡ true) → (xs : List A) → filter q (filter p xs) ≡ filter q xs
@@ -17,24 +15,6 @@ kept_by_both p q h (x ∷ xs) =
 -- to filter twice is to filter once
 pub filter_twice : {A : Type 0} (p : A → Bool) (xs : List A) → filter p (filter p xs) ≡ filter p xs
 filter_twice p xs = kept_by_both p p (λ x e. e) xs
-
--- a table after one place is set
-pub at_set : {A : Type 0} (Q : A → Type 0) (f : ℕ → A) (l : ℕ) (v : A) (k : ℕ) → (k ≡ l → Q v) → Q (f k) → Q (set_at f l v k)
-at_set Q f l v k h g = elim (k == l) as (λ b. (k == l) ≡ b → Q (cond b v (f k))) [ true ↦ λ e. h ((Decides-eqb k l).0 e) | false ↦ λ e. g ] refl
-
--- a place that is not looked at
-pub hidden_set : {A : Type 0} (f : ℕ → A) (l : ℕ) (v : A) (k : ℕ) → (k ≡ l → v ≡ f k) → set_at f l v k ≡ f k
-hidden_set f l v k h = at_set (λ x. x ≡ f k) f l v k h refl
-
--- the same place set in two tables
-pub same_set : {A : Type 0} (f g : ℕ → A) (l : ℕ) (v w : A) (k : ℕ) → (k ≡ l → v ≡ w) → f k ≡ g k → set_at f l v k ≡ set_at g l w k
-same_set f g l v w k h e =
-    elim (k == l) as (λ b. (k == l) ≡ b → cond b v (f k) ≡ cond b w (g k)) [ true ↦ λ t. h ((Decides-eqb k l).0 t) | false ↦ λ t. e ] refl
-
--- a fact of both branches
-pub of_branch : {A : Type 0} (Q : A → Type 0) (b : Bool) (x y : A) → Q x → Q y → Q (cond b x y)
-of_branch Q true x y h k = h
-of_branch Q false x y h k = k
 
 -- two filters in either order
 filter_first : {A : Type 0} (p : A → Bool) (b : Bool) (x : A) (xs : List A) → filter p (cond b (x ∷ xs) xs) ≡ cond (b && p x) (x ∷ filter p xs) (filter p xs)

@@ -1,4 +1,4 @@
--- A list with one place set, as a table.
+-- A list with one place set, as the table that it is.
 use Rattle.std.proofs.Common.{◌≡◌, ℕ, ◌<◌, Bool, true, false, cond, List, length, get_or, refl, ◌∙◌, ap}
 use Rattle.std.specs.Prelude.{◌==◌, ◌≢◌}
 use Rattle.std.proofs.Math.ListN.{set}

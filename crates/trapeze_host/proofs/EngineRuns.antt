@@ -1,4 +1,4 @@
--- A run of the engine in a stint.
+-- A stint goes on as the run of the engine ended.
 use Rattle.std.proofs.Common.{◌≡◌, ℕ, zero, suc, ◌-◌, ◌<◌, List, [], ◌∷◌, ◌++◌, length, replicate, Option, refl, sym, ◌∙◌, ap, subst, arith}
 use Rattle.std.specs.Prelude.{slice_index}
 use Rattle.wasm_ast.specs.declared.hosts.HostName.{HostName}

@@ -1,4 +1,4 @@
--- Tests that hold of both, and orders that are less.
+-- Tests that pass: of both parts of a conjunction, and of an order that is less.
 use Rattle.std.proofs.Common.{◌≡◌, Bool, true, false, cond, T, Option, None, refl}
 use Rattle.std.specs.Prelude.{◌&&◌}
 use Rattle.std.specs.declared.cmp.Ordering.{Ordering}

@@ -1,4 +1,4 @@
--- Other requests: what is kept stays sound where no request number is below what it was.
+-- What is kept stays sound with other requests, where no request number is below what it was.
 use Rattle.std.proofs.Common.{◌≡◌, ℕ, ◌≤◌, List, get_or, ◌∙◌, arith}
 use Rattle.label_limits.specs.declared.limits.Limits.{Limits}
 use Rattle.label_queues.specs.Lists.{list_of}
