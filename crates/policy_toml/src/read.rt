@@ -1,5 +1,6 @@
 //! Reading a policy.
 
+ghost use Rattle.std.specs.Prelude.{◌≢◌, IfErr};
 ghost use Rattle.toml.specs.View.{table_view};
 ghost use Rattle.policy_toml.specs.Rows.{Reads};
 ghost use Rattle.policy_toml.specs.PolicyOf.{policy_of, table_policy};
@@ -13,6 +14,7 @@ use crate::gates::gates;
 use crate::labels::{flows, labels, lattice};
 use crate::limits::{all_limits, limits};
 use crate::policy::Policy;
+use label_lattice::LatticeError;
 use std::alloc::Global;
 use toml::Table;
 
@@ -28,7 +30,8 @@ use toml::Table;
 /// the functions; the channels; the clients; the gates. In a part the whole comes first and then its rows, lists in their order
 /// and tables in byte order of their keys; in a row its key, its kind, a key that it does not have, and then its fields.
 pub fn read_policy(alloc: Global, bytes: &[u8]) -> Result<Policy, PolicyError>
-    ensures { Reads (λ policy. policy) (policy_of bytes.now) result }
+    ensures read { Reads (λ policy. policy) (policy_of bytes.now) result }
+    ensures memory { IfErr result (λ e. e ≢ PolicyError.Lattice LatticeError.NoMemory) }
 {
     let root = document(alloc, bytes)?;
     read_table(alloc, &root)
