@@ -7,7 +7,7 @@ use Rattle.std.specs.List.{range_with_len, slice_index_or}
 use Rattle.label_limits.specs.Ranges.{usual, AreWithin}
 use Rattle.label_limits.specs.declared.limits.Limits.{Limits}
 use Rattle.policy_toml.specs.PolicyOf.{limits_written, limits_by_label}
-use Rattle.policy_toml.specs.Stages.{IsRowOf}
+use Rattle.policy_toml.specs.Limits.{IsRowOf}
 
 chosen : (b : Bool) (row : ℕ × Limits) (rest : Option (ℕ × Limits)) → AreWithin row.1
     → AreWithin (unwrap_or (option_map (λ row. row.1) rest) usual) → AreWithin (unwrap_or (option_map (λ row. row.1) (cond b (Some row) rest)) usual)

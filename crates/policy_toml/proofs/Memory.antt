@@ -13,8 +13,15 @@ use Rattle.policy_toml.specs.declared.place.Part.TheVariants as part
 use Rattle.policy_toml.specs.declared.place.Place.{Place}
 use Rattle.policy_toml.specs.Places.{row_place}
 use Rattle.policy_toml.specs.Rows.{Reads, unless, each_row, where_written, extra_key, extra_in_row}
+use Rattle.policy_toml.specs.Fields.{number_in}
+use Rattle.policy_toml.specs.Document.{root_keys}
+use Rattle.policy_toml.specs.Labels.{labels_of, flows_of, lattice_of}
+use Rattle.policy_toml.specs.Limits.{row_limits, limits_of}
+use Rattle.policy_toml.specs.Functions.{functions_of}
+use Rattle.policy_toml.specs.Channels.{channels_of}
+use Rattle.policy_toml.specs.Clients.{clients_of}
+use Rattle.policy_toml.specs.Gates.{gate_fields, gates_of}
 use Rattle.policy_toml.specs.Parts.{Parts}
-use Rattle.policy_toml.specs.Stages.{number_in, row_limits, gate_fields, root_keys, labels_of, flows_of, lattice_of, limits_of, functions_of, channels_of, clients_of, gates_of}
 use Rattle.policy_toml.specs.PolicyOf.{policy_of, table_policy}
 
 -- an error that says what is wrong with names and pairs

@@ -12,7 +12,7 @@ use Rattle.std.specs.Map.{keys_of, lookup}
 use Rattle.std.specs.Str.{IsUtf8, is_utf8}
 use Rattle.std.specs.String.{string_cmp}
 use Rattle.toml.specs.Parse.{parse_document}
-use Rattle.toml.specs.Data.{Data, Members, member}
+use Rattle.toml.specs.Data.{Data, Members, no_members, member}
 use Rattle.toml.specs.View.{view, items_view, members_view}
 use Rattle.toml.specs.declared.value.Value.{Value}
 use Rattle.toml.proofs.Views.{Entry}
@@ -24,8 +24,9 @@ use Rattle.policy_toml.specs.declared.error.PolicyError.TheVariants.{Toml, OutOf
 use Rattle.trapeze_io.specs.Names.{Ascend}
 use Rattle.policy_toml.specs.Places.{whole}
 use Rattle.trapeze_io.specs.Answers.{◌>>=◌}
-use Rattle.policy_toml.specs.Rows.{each_row, members_of, keys_in}
-use Rattle.policy_toml.specs.Stages.{document_of, two_texts, at_most}
+use Rattle.policy_toml.specs.Rows.{each_row, members_of, at_most}
+use Rattle.policy_toml.specs.Document.{document_of}
+use Rattle.policy_toml.specs.Labels.{two_texts}
 
 -- what was found, and then what the rest reads as
 abbrev pub after : {Y : Type 0} → List Y → Result (List Y) PolicyError → Result (List Y) PolicyError
@@ -91,6 +92,11 @@ each_row-length {X} {Y} read row (x ∷ rows) ys is =
     let rest = parts_of (each_row read (row + 1) rows) (λ zs. Ok (here.value ∷ zs)) ys here.onward in
     let same : here.value ∷ rest.value ≡ ys = let t = rest.onward in cc in
     ap length (sym same) ∙ ap suc (each_row-length read (row + 1) rows rest.value rest.gave)
+
+-- the keys of a table
+abbrev pub keys_in : Members → List (List ℕ)
+keys_in no_members = []
+keys_in (member key d others) = key ∷ keys_in others
 
 -- the keys of a map ascend
 below_rest : (k : List ℕ) (es : List Entry) → AllByRecursion (λ y. slice_cmp nat_cmp k (string_bytes y) ≡ Less) (keys_of es) → AllByRecursion (λ y. slice_cmp nat_cmp k y ≡ Less) (keys_in (members_view es))

@@ -10,7 +10,13 @@ use Rattle.label_limits.specs.declared.limits.Limits.{Limits}
 use Rattle.labelled_channel.specs.declared.channels.Channel.{Channel}
 use Rattle.gate_rules.specs.declared.gate.Gate.{Gate}
 use Rattle.trapeze_io.specs.Names.{Ascend}
-use Rattle.policy_toml.specs.Stages.{root_keys, labels_of, flows_of, lattice_of, limits_of, functions_of, channels_of, clients_of, gates_of, is_file_name, IsFunction, IsClient, IsChannel, IsGate}
+use Rattle.policy_toml.specs.Document.{root_keys}
+use Rattle.policy_toml.specs.Labels.{labels_of, flows_of, lattice_of}
+use Rattle.policy_toml.specs.Limits.{limits_of}
+use Rattle.policy_toml.specs.Functions.{functions_of, is_file_name, IsFunction}
+use Rattle.policy_toml.specs.Channels.{channels_of, IsChannel}
+use Rattle.policy_toml.specs.Clients.{clients_of, IsClient}
+use Rattle.policy_toml.specs.Gates.{gates_of, IsGate}
 use Rattle.policy_toml.specs.Parts.{Parts, IsPolicy}
 use Rattle.policy_toml.specs.PolicyOf.{table_policy, limits_by_label}
 

@@ -1,5 +1,12 @@
 pub mod Places
 pub mod Rows
-pub mod Stages
+pub mod Fields
+pub mod Document
+pub mod Labels
+pub mod Limits
+pub mod Functions
+pub mod Channels
+pub mod Clients
+pub mod Gates
 pub mod Parts
 pub mod PolicyOf

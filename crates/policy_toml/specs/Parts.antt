@@ -8,7 +8,9 @@ use Rattle.label_limits.specs.declared.limits.Limits.{Limits}
 use Rattle.labelled_channel.specs.declared.channels.Channel.{Channel}
 use Rattle.gate_rules.specs.declared.gate.Gate.{Gate}
 use Rattle.trapeze_io.specs.Names.{Ascend}
-use Rattle.policy_toml.specs.Stages.{is_file_name, IsChannel, IsGate}
+use Rattle.policy_toml.specs.Functions.{is_file_name}
+use Rattle.policy_toml.specs.Channels.{IsChannel}
+use Rattle.policy_toml.specs.Gates.{IsGate}
 
 -- the parts of a policy; functions and clients are numbered by position
 pub record Parts : Type 0 where

@@ -6,7 +6,13 @@ use Rattle.label_limits.specs.Ranges.{usual}
 use Rattle.label_limits.specs.declared.limits.Limits.{Limits}
 use Rattle.trapeze_io.specs.Answers.{◌>>=◌}
 use Rattle.policy_toml.specs.declared.error.PolicyError.{PolicyError}
-use Rattle.policy_toml.specs.Stages.{document_of, root_keys, labels_of, flows_of, lattice_of, limits_of, functions_of, channels_of, clients_of, gates_of}
+use Rattle.policy_toml.specs.Document.{document_of, root_keys}
+use Rattle.policy_toml.specs.Labels.{labels_of, flows_of, lattice_of}
+use Rattle.policy_toml.specs.Limits.{limits_of}
+use Rattle.policy_toml.specs.Functions.{functions_of}
+use Rattle.policy_toml.specs.Channels.{channels_of}
+use Rattle.policy_toml.specs.Clients.{clients_of}
+use Rattle.policy_toml.specs.Gates.{gates_of}
 use Rattle.policy_toml.specs.Parts.{Parts}
 
 -- the limits of a label: those of its row, or the usual ones

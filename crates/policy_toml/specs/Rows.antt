@@ -1,15 +1,16 @@
--- Result row PolicyError by row: what the rows say, or the first fault among them.
-use Rattle.std.specs.Prelude.{◌≡◌, ◌≢◌, ℕ, ◌+◌, Bool, not, List, [], ◌∷◌, Option, Some, None, ok_or, Result, Ok, Err, codes, nat_eq}
+-- The rows of a part, read one by one: what they say, or the first fault among them.
+use Rattle.std.specs.Prelude.{◌≡◌, ◌≢◌, ℕ, ◌+◌, Bool, not, List, [], ◌∷◌, Option, Some, None, ok_or, Result, Ok, Err, codes, nat_eq, nat_le, length, if◌then◌else◌}
 use Rattle.std.specs.List.{list_any, position_from}
 use Rattle.std.specs.Cmp.Lexicographic.{pointwise}
 use Rattle.trapeze_io.specs.Answers.{◌>>=◌}
-use Rattle.toml.specs.Data.{Data, as_str, as_table, Items, no_items, item, Members, no_members, member, get_member}
+use Rattle.toml.specs.Data.{Data, as_table, Items, no_items, item, Members, no_members, member}
 use Rattle.policy_toml.specs.declared.place.Part.{Part}
 use Rattle.policy_toml.specs.declared.place.Part.TheVariants as part
 use Rattle.policy_toml.specs.declared.place.Place.{Place}
 use Rattle.policy_toml.specs.declared.error.PolicyError.{PolicyError}
-use Rattle.policy_toml.specs.declared.error.PolicyError.TheVariants.{Extra, Missing, WrongKind, NoMemory}
-use Rattle.policy_toml.specs.Places.{row_place}
+use Rattle.policy_toml.specs.declared.error.PolicyError.TheVariants.{Extra, WrongKind, NoMemory, BadName, OutOfRange}
+use Rattle.policy_toml.specs.Places.{row_place, whole}
+use Rattle.trapeze_io.specs.Names.{is_name}
 
 -- a test that gives nothing but its fault
 abbrev pub unless : Option PolicyError → Result (Unit {0}) PolicyError
@@ -29,11 +30,6 @@ items_of (item d others) = d ∷ items_of others
 abbrev pub members_of : Members → List (List ℕ × Data)
 members_of no_members = []
 members_of (member key d others) = (key, d) ∷ members_of others
-
--- the keys of a table
-abbrev pub keys_in : Members → List (List ℕ)
-keys_in no_members = []
-keys_in (member key d others) = key ∷ keys_in others
 
 -- nothing where a part is not written
 abbrev pub where_written : {X : Type 0} → Option Data → (Data → Result (List X) PolicyError) → Result (List X) PolicyError
@@ -68,9 +64,13 @@ row_table part row d =
     ok_or (as_table d) (WrongKind (row_place part row)) >>= (λ table.
     extra_in_row (row_place part row) (extra_key part table) >>= (λ _. Ok table))
 
--- the text at a key that has to be there
-abbrev pub text_at : List ℕ → Place → Members → Result (List ℕ) PolicyError
-text_at key place table = ok_or (get_member key table) (Missing place) >>= (λ d. ok_or (as_str d) (WrongKind place))
+-- a part has at most so many rows
+abbrev pub at_most : ℕ → Part → Members → Result (Unit {0}) PolicyError
+at_most most part table = if nat_le (length (members_of table)) most then Ok tt else Err (OutOfRange (whole part))
+
+-- a row's key is a name
+abbrev pub name_of : Part → ℕ → List ℕ → Result (List ℕ) PolicyError
+name_of part row key = if is_name key then Ok key else Err (BadName (row_place part row))
 
 -- the answer is what the definition reads, unless it is out of memory
 abbrev pub Reads : {T X : Type 0} → (T → X) → Result X PolicyError → Result T PolicyError → Type 0

@@ -1,11 +1,11 @@
 //! The channels of a policy.
 
-ghost use Rattle.std.specs.Prelude.{◌≡◌, ◌≤◌, Some, None, option_map, map, length, IfOk, All};
+ghost use Rattle.std.specs.Prelude.{◌≡◌, ◌≤◌, length, IfOk, All};
 ghost use Rattle.toml.specs.View.{view, table_view};
 ghost use Rattle.label_lattice.specs.Order.{count};
 ghost use Rattle.trapeze_io.specs.Names.{Ascend};
 ghost use Rattle.policy_toml.specs.Rows.{Reads, each_row, members_of};
-ghost use Rattle.policy_toml.specs.Stages.{channel_row, channels_of, shown_channel, IsChannel};
+ghost use Rattle.policy_toml.specs.Channels.{channel_row, channels_of, shown_channel, IsChannel};
 
 use crate::error::PolicyError;
 use crate::functions::function_at;
@@ -18,7 +18,7 @@ use toml::{Table, Value};
 use trapeze_io::Name;
 
 /// The channels in byte order of their names.
-#[tactic(auto, unfolding(crate::specs::Stages::channels_of))]
+#[tactic(auto, unfolding(crate::specs::Channels::channels_of))]
 pub fn channels(
     alloc: Global,
     lattice: &Lattice,

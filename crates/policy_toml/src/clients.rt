@@ -1,11 +1,11 @@
 //! The clients of a policy.
 
-ghost use Rattle.std.specs.Prelude.{◌≡◌, ◌≤◌, Some, None, option_map, map, length, IfOk, All};
+ghost use Rattle.std.specs.Prelude.{◌≡◌, ◌≤◌, map, length, IfOk, All};
 ghost use Rattle.toml.specs.View.{view, table_view};
 ghost use Rattle.label_lattice.specs.Order.{count};
 ghost use Rattle.trapeze_io.specs.Names.{Ascend};
 ghost use Rattle.policy_toml.specs.Rows.{Reads, each_row, members_of};
-ghost use Rattle.policy_toml.specs.Stages.{client_row, clients_of, IsClient};
+ghost use Rattle.policy_toml.specs.Clients.{client_row, clients_of, IsClient};
 
 use crate::error::PolicyError;
 use crate::place::{Part, Place};
@@ -32,7 +32,7 @@ impl Model for Client {
 }
 
 /// The clients in byte order of their names, with their clearances.
-#[tactic(auto, unfolding(crate::specs::Stages::clients_of))]
+#[tactic(auto, unfolding(crate::specs::Clients::clients_of))]
 pub fn clients(alloc: Global, lattice: &Lattice, root: &Table) -> Result<Vec<Client>, PolicyError>
     ensures read { Reads (λ rows. rows.items) (clients_of lattice.now.names (table_view root.now)) result }
     ensures ascend { IfOk result (λ rows. Ascend (map (λ row. row.0) rows.items)) }

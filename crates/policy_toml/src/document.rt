@@ -1,9 +1,8 @@
 //! The root table of a policy.
 
-ghost use Rattle.std.specs.Prelude.{◌≡◌, Some, None, option_map};
 ghost use Rattle.toml.specs.View.{table_view};
 ghost use Rattle.policy_toml.specs.Rows.{Reads};
-ghost use Rattle.policy_toml.specs.Stages.{document_of, root_keys};
+ghost use Rattle.policy_toml.specs.Document.{document_of, root_keys};
 
 use crate::error::PolicyError;
 use crate::place::{Part, Place};
@@ -26,7 +25,7 @@ pub fn document(alloc: Global, bytes: &[u8]) -> Result<Table, PolicyError>
 }
 
 /// Tests that the root has no key but a policy's.
-#[tactic(auto, unfolding(crate::specs::Stages::root_keys))]
+#[tactic(auto, unfolding(crate::specs::Document::root_keys))]
 pub fn root_keys(root: &Table) -> Result<(), PolicyError>
     ensures { Reads (λ done. done) (root_keys (table_view root.now)) result }
 {

@@ -1,10 +1,10 @@
 //! The functions of a policy.
 
-ghost use Rattle.std.specs.Prelude.{◌≡◌, ◌<◌, ◌≤◌, Some, None, option_map, string_bytes, map, length, IfOk, All};
+ghost use Rattle.std.specs.Prelude.{◌≡◌, ◌<◌, ◌≤◌, string_bytes, map, length, IfOk, All};
 ghost use Rattle.toml.specs.View.{view, table_view};
 ghost use Rattle.trapeze_io.specs.Names.{Ascend};
 ghost use Rattle.policy_toml.specs.Rows.{Reads, each_row, members_of};
-ghost use Rattle.policy_toml.specs.Stages.{function_row, functions_of, function_at, IsFunction};
+ghost use Rattle.policy_toml.specs.Functions.{function_row, functions_of, function_at, IsFunction};
 
 use crate::error::PolicyError;
 use crate::place::{Part, Place};
@@ -31,7 +31,7 @@ impl Model for Function {
 }
 
 /// The functions in byte order of their names, with their file names.
-#[tactic(auto, unfolding(crate::specs::Stages::functions_of))]
+#[tactic(auto, unfolding(crate::specs::Functions::functions_of))]
 pub fn functions(alloc: Global, root: &Table) -> Result<Vec<Function>, PolicyError>
     ensures read { Reads (λ rows. rows.items) (functions_of (table_view root.now)) result }
     ensures ascend { IfOk result (λ rows. Ascend (map (λ row. row.0) rows.items)) }

@@ -5,7 +5,7 @@ ghost use Rattle.toml.specs.View.{view, table_view};
 ghost use Rattle.label_lattice.specs.Order.{count};
 ghost use Rattle.trapeze_io.specs.Names.{Ascend};
 ghost use Rattle.policy_toml.specs.Rows.{Reads, each_row, members_of};
-ghost use Rattle.policy_toml.specs.Stages.{filter_at, filter_named, gate_fields, gate_row, gates_of, with_count, IsGate};
+ghost use Rattle.policy_toml.specs.Gates.{filter_at, filter_named, gate_fields, gate_row, gates_of, with_count, IsGate};
 
 use crate::error::PolicyError;
 use crate::functions::function_at;
@@ -21,7 +21,7 @@ use trapeze_io::Name;
 const LARGEST_COUNT: u32 = 65_536;
 
 /// The gates in byte order of their names.
-#[tactic(auto, unfolding(crate::specs::Stages::gates_of))]
+#[tactic(auto, unfolding(crate::specs::Gates::gates_of))]
 pub fn gates(
     alloc: Global,
     lattice: &Lattice,
@@ -82,7 +82,7 @@ fn gate_row(
     Ok((name, gate))
 }
 
-#[tactic(auto, unfolding(crate::specs::Stages::gate_fields))]
+#[tactic(auto, unfolding(crate::specs::Gates::gate_fields))]
 fn gate_fields(
     lattice: &Lattice,
     functions: &[Name],

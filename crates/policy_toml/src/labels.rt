@@ -3,7 +3,7 @@
 ghost use Rattle.std.specs.Prelude.{◌≡◌, IfOk, option_map};
 ghost use Rattle.toml.specs.View.{view, items_view, table_view};
 ghost use Rattle.policy_toml.specs.Rows.{Reads, each_row, items_of};
-ghost use Rattle.policy_toml.specs.Stages.{label_row, labels_of, flow_row, pair_of, flows_of, lattice_of};
+ghost use Rattle.policy_toml.specs.Labels.{label_row, labels_of, flow_row, pair_of, flows_of, lattice_of};
 
 use crate::error::PolicyError;
 use crate::place::{Part, Place};
@@ -14,7 +14,7 @@ use toml::{Table, Value};
 use trapeze_io::Bytes;
 
 /// The labels in order.
-#[tactic(auto, unfolding(crate::specs::Stages::labels_of))]
+#[tactic(auto, unfolding(crate::specs::Labels::labels_of))]
 pub fn labels(alloc: Global, root: &Table) -> Result<Vec<Bytes>, PolicyError>
     ensures { Reads (λ labels. labels.items) (labels_of (table_view root.now)) result }
 {
@@ -51,7 +51,7 @@ fn label_row(alloc: Global, row: u64, value: &Value) -> Result<Bytes, PolicyErro
 }
 
 /// The pairs of labels of which the first flows to the second.
-#[tactic(auto, unfolding(crate::specs::Stages::flows_of))]
+#[tactic(auto, unfolding(crate::specs::Labels::flows_of))]
 pub fn flows(alloc: Global, root: &Table) -> Result<Vec<(Bytes, Bytes)>, PolicyError>
     ensures { Reads (λ flows. flows.items) (flows_of (table_view root.now)) result }
 {
@@ -102,7 +102,7 @@ fn two_texts<'a>(value: &'a Value) -> Option<(&'a str, &'a str)>
 }
 
 /// The lattice of the labels and flows.
-#[tactic(auto, unfolding(crate::specs::Stages::lattice_of))]
+#[tactic(auto, unfolding(crate::specs::Labels::lattice_of))]
 pub fn lattice(
     alloc: Global,
     labels: &[Bytes],

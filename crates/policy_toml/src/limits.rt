@@ -7,7 +7,7 @@ ghost use Rattle.label_limits.specs.Ranges.{AreWithin};
 ghost use Rattle.policy_toml.specs.Places.{field_of};
 ghost use Rattle.policy_toml.specs.PolicyOf.{limits_written, limits_by_label};
 ghost use Rattle.policy_toml.specs.Rows.{Reads, each_row, members_of};
-ghost use Rattle.policy_toml.specs.Stages.{limits_of, limits_row, row_limits, IsRowOf};
+ghost use Rattle.policy_toml.specs.Limits.{limits_of, limits_row, row_limits, IsRowOf};
 
 use crate::error::PolicyError;
 use crate::place::{Part, Place};
@@ -36,7 +36,7 @@ impl Model for Row {
 }
 
 /// The limits that are written, in byte order of the labels' names.
-#[tactic(auto, unfolding(crate::specs::Stages::limits_of))]
+#[tactic(auto, unfolding(crate::specs::Limits::limits_of))]
 pub fn limits(alloc: Global, lattice: &Lattice, root: &Table) -> Result<Vec<Row>, PolicyError>
     ensures read { Reads (λ rows. rows.items) (limits_of lattice.now.names (table_view root.now)) result }
     ensures rows { IfOk result (λ rows. All (IsRowOf (count lattice.now)) rows.items) }
@@ -76,7 +76,7 @@ fn limits_row(lattice: &Lattice, row: u64, key: &str, value: &Value) -> Result<R
     Ok(Row { label, limits })
 }
 
-#[tactic(auto, unfolding(crate::specs::Stages::row_limits))]
+#[tactic(auto, unfolding(crate::specs::Limits::row_limits))]
 fn fields(row: u64, table: &Table) -> Result<Limits, PolicyError>
     ensures read { Reads (λ limits. limits) (row_limits row (table_view table.now)) result }
     ensures in_range { IfOk result AreWithin }

@@ -1,12 +1,12 @@
 //! Tables, and their members by key.
 
-ghost use Rattle.std.specs.Prelude.{◌≡◌, ◌<◌, pos, true, Some, option_map, IfOk};
+ghost use Rattle.std.specs.Prelude.{◌≡◌, ◌<◌, pos, true, option_map, IfOk};
 ghost use Rattle.toml.specs.Data.{get_member};
 ghost use Rattle.toml.specs.View.{view, table_view};
 ghost use Rattle.label_lattice.specs.Order.{count};
 ghost use Rattle.label_limits.specs.Ranges.{is_within};
-ghost use Rattle.policy_toml.specs.Rows.{is_key_of, extra_key, row_table, text_at, Reads};
-ghost use Rattle.policy_toml.specs.Stages.{at_most, label_at, name_of, number_at, number_within};
+ghost use Rattle.policy_toml.specs.Rows.{is_key_of, extra_key, row_table, Reads, at_most, name_of};
+ghost use Rattle.policy_toml.specs.Fields.{text_at, label_at, number_at, number_within};
 
 use crate::error::PolicyError;
 use crate::place::{Part, Place};

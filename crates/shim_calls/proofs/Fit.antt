@@ -19,7 +19,8 @@ use Rattle.gate_rules.specs.declared.gate.Gate.{Gate}
 use Rattle.gate_rules.specs.declared.gates.Passage.{Passage}
 use Rattle.gate_rules.specs.declared.gates.Passage.TheVariants as passage
 use Rattle.gate_rules.specs.Gates.{gate_of, filtered, passed}
-use Rattle.policy_toml.specs.Stages.{IsChannel, IsGate}
+use Rattle.policy_toml.specs.Channels.{IsChannel}
+use Rattle.policy_toml.specs.Gates.{IsGate}
 use Rattle.trapeze_lines.specs.declared.outcome.Cause.TheVariants.{Unknown}
 use Rattle.host_rules.specs.Rules.{Rules, channel_named}
 use Rattle.host_rules.specs.Wishes as wishes

@@ -12,7 +12,9 @@ use Rattle.label_limits.specs.declared.limits.Limits.{Limits}
 use Rattle.labelled_channel.specs.declared.channels.Channel.{Channel}
 use Rattle.gate_rules.specs.declared.gate.Gate.{Gate}
 use Rattle.trapeze_io.specs.Names.{Ascend}
-use Rattle.policy_toml.specs.Stages.{is_file_name, IsChannel, IsGate}
+use Rattle.policy_toml.specs.Functions.{is_file_name}
+use Rattle.policy_toml.specs.Channels.{IsChannel}
+use Rattle.policy_toml.specs.Gates.{IsGate}
 use Rattle.policy_toml.specs.Parts.{Parts, IsPolicy, parts_of}
 use Rattle.trapeze_exercise.specs.BuiltIn.{labels, flows, built_in}
 use Rattle.trapeze_exercise.specs.BuiltIn as built

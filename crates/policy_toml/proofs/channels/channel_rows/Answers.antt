@@ -4,7 +4,7 @@ use Rattle.toml.specs.View.{view, members_view}
 use Rattle.label_lattice.specs.Order.{count}
 use Rattle.labelled_channel.specs.declared.channels.Channel.{Channel}
 use Rattle.policy_toml.specs.Rows.{members_of}
-use Rattle.policy_toml.specs.Stages.{channel_row, IsChannel}
+use Rattle.policy_toml.specs.Channels.{channel_row, IsChannel}
 use Rattle.policy_toml.proofs.Rows.{SoFar-begin, SoFar-next, Named-begin, Named-next, Named-fresh}
 use Rattle.policy_toml.proofs.channels.channel_rows.Goals as goal
 

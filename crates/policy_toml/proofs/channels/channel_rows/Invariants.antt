@@ -2,7 +2,7 @@ use Rattle.std.proofs.Common.{◌≡◌, ◌+◌, ◌^◌, ◌<◌, length}
 use Rattle.toml.specs.View.{members_view}
 use Rattle.label_lattice.specs.Order.{count}
 use Rattle.policy_toml.specs.Rows.{members_of}
-use Rattle.policy_toml.specs.Stages.{channel_row, IsChannel}
+use Rattle.policy_toml.specs.Channels.{channel_row, IsChannel}
 use Rattle.policy_toml.proofs.Rows.{SoFar, Named}
 use Rattle.policy_toml.proofs.channels.channel_rows.Given as goal
 

@@ -2,7 +2,7 @@ use Rattle.std.proofs.Common.{◌≡◌, ◌+◌, [], ◌∷◌, ◌++◌, Ok, l
 use Rattle.toml.specs.View.{view, members_view}
 use Rattle.label_lattice.specs.Order.{count}
 use Rattle.policy_toml.specs.Rows.{members_of}
-use Rattle.policy_toml.specs.Stages.{client_row, IsClient}
+use Rattle.policy_toml.specs.Clients.{client_row, IsClient}
 use Rattle.policy_toml.proofs.Rows.{SoFar-begin, SoFar-next, Named-begin, Named-next, SoFar-count}
 use Rattle.policy_toml.proofs.clients.client_rows.Goals as goal
 

@@ -1,7 +1,7 @@
 use Rattle.toml.specs.View.{members_view}
 use Rattle.label_lattice.specs.Order.{count}
 use Rattle.policy_toml.specs.Rows.{members_of}
-use Rattle.policy_toml.specs.Stages.{client_row, IsClient}
+use Rattle.policy_toml.specs.Clients.{client_row, IsClient}
 use Rattle.policy_toml.proofs.Rows.{SoFar, Named}
 use Rattle.policy_toml.proofs.clients.client_rows.Given as goal
 

@@ -1,7 +1,7 @@
 use Rattle.std.proofs.Common.{◌≡◌, ◌+◌, [], ◌∷◌, ◌++◌, Ok, length, string_bytes, ap, rules}
 use Rattle.toml.specs.View.{view, members_view}
 use Rattle.policy_toml.specs.Rows.{members_of}
-use Rattle.policy_toml.specs.Stages.{function_row, IsFunction}
+use Rattle.policy_toml.specs.Functions.{function_row, IsFunction}
 use Rattle.policy_toml.proofs.Rows.{SoFar-begin, SoFar-next, Named-begin, Named-next, SoFar-count}
 use Rattle.policy_toml.proofs.functions.function_rows.Goals as goal
 

@@ -1,6 +1,6 @@
 use Rattle.toml.specs.View.{members_view}
 use Rattle.policy_toml.specs.Rows.{members_of}
-use Rattle.policy_toml.specs.Stages.{function_row, IsFunction}
+use Rattle.policy_toml.specs.Functions.{function_row, IsFunction}
 use Rattle.policy_toml.proofs.Rows.{SoFar, Named}
 use Rattle.policy_toml.proofs.functions.function_rows.Given as goal
 

@@ -4,7 +4,7 @@ use Rattle.toml.specs.View.{view, members_view}
 use Rattle.label_lattice.specs.Order.{count}
 use Rattle.gate_rules.specs.declared.gate.Gate.{Gate}
 use Rattle.policy_toml.specs.Rows.{members_of}
-use Rattle.policy_toml.specs.Stages.{gate_row, IsGate}
+use Rattle.policy_toml.specs.Gates.{gate_row, IsGate}
 use Rattle.policy_toml.proofs.Rows.{SoFar-begin, SoFar-next, Named-begin, Named-next, Named-fresh}
 use Rattle.policy_toml.proofs.gates.gate_rows.Goals as goal
 

@@ -1,7 +1,7 @@
 use Rattle.std.proofs.Common.{drop}
 use Rattle.toml.specs.View.{items_view}
 use Rattle.policy_toml.specs.Rows.{items_of}
-use Rattle.policy_toml.specs.Stages.{label_row}
+use Rattle.policy_toml.specs.Labels.{label_row}
 use Rattle.policy_toml.proofs.Rows.{SoFar}
 use Rattle.policy_toml.proofs.labels.label_rows.Given as goal
 

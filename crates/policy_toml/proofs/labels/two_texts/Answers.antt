@@ -1,7 +1,7 @@
 use Rattle.std.proofs.Common.{sym, ◌∙◌, ap, arith}
 use Rattle.std.specs.Prelude.{option_map, option_and_then}
 use Rattle.toml.specs.View.{array_view}
-use Rattle.policy_toml.specs.Stages.{two_texts}
+use Rattle.policy_toml.specs.Labels.{two_texts}
 use Rattle.policy_toml.proofs.Rows.{not_two}
 use Rattle.policy_toml.proofs.labels.two_texts.Goals as goal
 

@@ -4,7 +4,7 @@ use Rattle.toml.specs.View.{view, members_view}
 use Rattle.label_lattice.specs.Order.{count}
 use Rattle.label_limits.specs.declared.limits.Limits.{Limits}
 use Rattle.policy_toml.specs.Rows.{members_of}
-use Rattle.policy_toml.specs.Stages.{limits_row, IsRowOf}
+use Rattle.policy_toml.specs.Limits.{limits_row, IsRowOf}
 use Rattle.policy_toml.proofs.Rows.{SoFar-begin, SoFar-next, all_none, all_more}
 use Rattle.policy_toml.proofs.limits.limits_rows.Goals as goal
 

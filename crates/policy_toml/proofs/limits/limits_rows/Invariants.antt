@@ -2,7 +2,7 @@ use Rattle.std.specs.Prelude.{All}
 use Rattle.toml.specs.View.{members_view}
 use Rattle.label_lattice.specs.Order.{count}
 use Rattle.policy_toml.specs.Rows.{members_of}
-use Rattle.policy_toml.specs.Stages.{limits_row, IsRowOf}
+use Rattle.policy_toml.specs.Limits.{limits_row, IsRowOf}
 use Rattle.policy_toml.proofs.Rows.{SoFar}
 use Rattle.policy_toml.proofs.limits.limits_rows.Given as goal
 

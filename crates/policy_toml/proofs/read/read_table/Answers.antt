@@ -4,7 +4,11 @@ use Rattle.std.proofs.lemmas.Result.{err_from_is_err_and}
 use Rattle.toml.specs.View.{table_view}
 use Rattle.label_lattice.specs.Order.{count}
 use Rattle.label_limits.specs.declared.limits.Limits.{Limits}
-use Rattle.policy_toml.specs.Stages.{lattice_of, limits_of, channels_of, clients_of, gates_of, IsRowOf}
+use Rattle.policy_toml.specs.Labels.{lattice_of}
+use Rattle.policy_toml.specs.Limits.{limits_of, IsRowOf}
+use Rattle.policy_toml.specs.Channels.{channels_of}
+use Rattle.policy_toml.specs.Clients.{clients_of}
+use Rattle.policy_toml.specs.Gates.{gates_of}
 use Rattle.trapeze_io.specs.Names.{Ascend}
 use Rattle.policy_toml.specs.PolicyOf.{limits_by_label}
 use Rattle.policy_toml.proofs.Whole.{is_policy, accepted, parts_same}
