@@ -9,4 +9,5 @@ pub mod Channels
 pub mod Clients
 pub mod Gates
 pub mod Parts
+pub mod Kept
 pub mod PolicyOf

@@ -26,15 +26,15 @@ pub struct Policy {
 }
 
 impl Model for Policy {
-    ghost use Rattle.policy_toml.specs.Parts.{IsPolicy, Parts, parts_of};
+    ghost use Rattle.policy_toml.specs.Parts.{Parts};
 
     ghost Value = { Parts };
 
-    ghost view = { λ p.
-        parts_of p.lattice p.limits.items p.channels p.functions.items p.files.items p.clients.items p.clearances.items p.gates };
+    ghost use Rattle.policy_toml.specs.Kept.{kept_parts, IsSound};
 
-    ghost invariant = { λ p. IsPolicy
-        (parts_of p.lattice p.limits.items p.channels p.functions.items p.files.items p.clients.items p.clearances.items p.gates) };
+    ghost view = { kept_parts };
+
+    ghost invariant = { IsSound };
 }
 
 impl Policy {
