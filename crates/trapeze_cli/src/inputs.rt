@@ -77,11 +77,12 @@ pub(crate) fn read_rules<F: Files>(
 
 /// How a call ends whose policy is refused. Being out of memory is no fault of a policy.
 fn refusal(fault: PolicyError) -> Status
+    requires { fault ≢ PolicyError.Lattice LatticeError.NoMemory }
     ensures refused { (result ≡ Status.NoMemory) ⊎ (result ≡ Status.Policy fault) }
     ensures memory { TellsMemory result }
 {
     match fault {
-        PolicyError::NoMemory | PolicyError::Lattice(LatticeError::NoMemory) => Status::NoMemory,
+        PolicyError::NoMemory => Status::NoMemory,
         fault => Status::Policy(fault),
     }
 }
