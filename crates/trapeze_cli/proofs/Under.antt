@@ -80,7 +80,7 @@ module _ (form : Form) (parts : Parts) where
     where
       by : (s : Status) → IsOfPlay s (why s) → IfReadFailed (why s) (λ input. IfSome held (λ h. IsReachedUnder h form parts input))
       by (status.ReadFault i) of =
-          IfSome-map held (λ h k. subst (λ (x : Input). IsReachedUnder h form parts x) (sym of) (record { shown = shown; modules = modules }, is, k)) are
+          IfSome-map held (λ h k. subst (λ (x : Input). IsReachedUnder h form parts x) (sym of) (record { shown = shown; modules = modules }, (is, k))) are
       by status.Done of = tt
       by status.Usage of = tt
       by (status.Policy fault) of = tt
