@@ -12,9 +12,9 @@ use Rattle.event_file.specs.declared.fault.LineFault.TheVariants.{LineTooLong}
 use Rattle.event_file.specs.declared.fault.LineError.{LineError}
 use Rattle.event_file.specs.declared.next.Next.{Next}
 use Rattle.event_file.specs.declared.next.Next.TheVariants as next
-use Rattle.event_file.proofs.Split.{some_part}
+use Rattle.event_file.proofs.SplitLists.{some_part}
 use Rattle.event_file.proofs.Continuing.{is_end}
-use Rattle.event_file.proofs.Within.{long_line, line_within}
+use Rattle.event_file.proofs.WithinLimits.{long_line, line_within}
 
 -- the first line is whole, and this rest follows it
 pub record First (reader : Reader) (line rest : List ℕ) : Type 0 where

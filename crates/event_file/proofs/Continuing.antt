@@ -11,8 +11,8 @@ use Rattle.event_file.specs.declared.fault.LineFault.{LineFault}
 use Rattle.event_file.specs.declared.fault.LineError.{LineError}
 use Rattle.event_file.specs.declared.next.Next.{Next}
 use Rattle.event_file.specs.declared.next.Next.TheVariants as next
-use Rattle.event_file.proofs.Split.{slice_split-append, splice-append, splice, some_part}
-use Rattle.event_file.proofs.Within.{long_line, empty_line}
+use Rattle.event_file.proofs.SplitLists.{slice_split-append, splice-append, splice, some_part}
+use Rattle.event_file.proofs.WithinLimits.{long_line, empty_line}
 
 abbrev pub is_end : ℕ → Bool
 is_end byte = nat_eq byte 10

@@ -1,7 +1,7 @@
-pub mod Split
-pub mod Within
+pub mod SplitLists
+pub mod WithinLimits
 pub mod Continuing
-pub mod Hearing
+pub mod HeardLines
 pub mod Advancing
-pub mod Due
+pub mod DueAnswers
 pub mod Numerals

@@ -15,7 +15,8 @@ reader_of reader = record {
   bad = reader.bad;
 }
 
--- the names can be told by their numbers, the bytes kept begin in the buffer, no line feed is among the first of them, and each line used had a byte
+-- the names can be told by their numbers, the bytes kept begin in the buffer, no line feed is among the first of them,
+-- and each line used had a byte
 pub record IsSound (reader : Inside) : Type 0 where
   pub numbered : IsNumbered reader.known
   pub begins : reader.start + reader.searched ≤ length reader.buffer.items

@@ -58,7 +58,8 @@ impl<'a> EventReader<'a> {
     ) -> EventReader<'a>
         requires clients { AreNumbered clients.now }
         requires functions { AreNumbered functions.now }
-        ensures { result ≡ record { known = record { labels = lattice.now.names; clients = clients.now; functions = functions.now }; kept = []; lines = 0; fed = 0; finished = false; bad = None } }
+        ensures { result ≡ record { known = record { labels = lattice.now.names; clients = clients.now; functions = functions.now };
+            kept = []; lines = 0; fed = 0; finished = false; bad = None } }
     {
         EventReader {
             known: Known {
@@ -175,7 +176,8 @@ impl<'a> EventReader<'a> {
     /// How long the first of the lines kept is, if it is whole.
     fn line_end(&mut self) -> Option<usize>
         ensures same { self.new ≡ self.old }
-        ensures end { MatchOption result (IsOneLine self.old.kept) (λ len. (len < length self.old.kept) × (lines_of self.old.kept ≡ take len self.old.kept ∷ lines_of (drop (len + 1) self.old.kept))) }
+        ensures end { MatchOption result (IsOneLine self.old.kept)
+            (λ len. (len < length self.old.kept) × (lines_of self.old.kept ≡ take len self.old.kept ∷ lines_of (drop (len + 1) self.old.kept))) }
     {
         let rest = &self.buffer[self.start + self.searched..];
         match end_in(rest) {

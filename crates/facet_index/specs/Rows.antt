@@ -50,7 +50,8 @@ is_lesser after m (Some other) = is_later after m.0 && nat_lt m.0 other.0
 -- the member of the least label after one, or of all, or None where there is none
 abbrev pub IsLeastMember : Row → Option ℕ → Option Member → Type 0
 IsLeastMember row after None = (l : ℕ) → is_later after l ≡ true → member l row ≡ None
-IsLeastMember row after (Some m) = (is_later after m.0 ≡ true) × (member m.0 row ≡ Some m.1) × ((l : ℕ) → is_later after l ≡ true → l < m.0 → member l row ≡ None)
+IsLeastMember row after (Some m) = (is_later after m.0 ≡ true) × (member m.0 row ≡ Some m.1)
+    × ((l : ℕ) → is_later after l ≡ true → l < m.0 → member l row ≡ None)
 
 -- a row that is lent with its key
 abbrev pub row_lent : Bor (Vec ℕ Global) × Bor Row → List ℕ × Row
@@ -70,7 +71,8 @@ IsNextRow rows after (Some e) = (is_past after e.0 ≡ true) × (finite.get rows
 -- the facet of a key at the least label after one, or None where there is none
 abbrev pub IsRest : Rows → List ℕ → ℕ → Option Facet → Type 0
 IsRest rows key l None = (k : ℕ) → l < k → member k (row_of rows key) ≡ None
-IsRest rows key l (Some f) = (f.0.0 ≡ key) × (l < f.0.1) × (member f.0.1 (row_of rows key) ≡ Some f.1) × ((k : ℕ) → l < k → k < f.0.1 → member k (row_of rows key) ≡ None)
+IsRest rows key l (Some f) = (f.0.0 ≡ key) × (l < f.0.1) × (member f.0.1 (row_of rows key) ≡ Some f.1)
+    × ((k : ℕ) → l < k → k < f.0.1 → member k (row_of rows key) ≡ None)
 
 -- the facet of the least label of a row, where there is a row
 abbrev pub IsFirst : Option (List ℕ × Row) → Option Facet → Type 0

@@ -23,7 +23,8 @@ pub fn put(
     key: &[u8],
     value: Option<&[u8]>,
 ) -> Result<(), NoMemory>
-    ensures ok { OnOk result (rows_in rows.new.entries ≡ rows_after (rows_in rows.old.entries) (written at.number key.now (option_copied value.entry))) }
+    ensures ok { OnOk result (rows_in rows.new.entries
+        ≡ rows_after (rows_in rows.old.entries) (written at.number key.now (option_copied value.entry))) }
     ensures err { OnErr result (rows_in rows.new.entries ≡ rows_in rows.old.entries) }
 {
     let Ok(member) = Member::of(alloc, at, value) else {

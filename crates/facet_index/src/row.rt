@@ -97,7 +97,8 @@ fn lesser<'a>(
     after: Option<Label>,
     least: Option<&'a Member>,
 ) -> Option<&'a Member>
-    ensures { result ≡ (if is_lesser (number_after after) member.now (option_map (λ m. m.now) least.entry) then Some member.entry else least.entry) }
+    ensures { result ≡ (if is_lesser (number_after after) member.now (option_map (λ m. m.now) least.entry)
+        then Some member.entry else least.entry) }
 {
     let number = member.label().number();
     let is_later = match after {

@@ -78,7 +78,8 @@ pub fn play_steps<F: Facets>(
 ) -> Result<Answers, NoMemory>
     requires labels { count lattice.now ≡ length (F.limits facets.old) }
     requires steps { All (IsFitStep (count lattice.now)) steps.now }
-    ensures answers { IfOk result (λ answers. answers ≡ answers_of (flows lattice.now) (F.limits facets.old) (F.rows facets.old) steps.now) }
+    ensures answers { IfOk result (λ answers. answers ≡
+        answers_of (flows lattice.now) (F.limits facets.old) (F.rows facets.old) steps.now) }
     ensures rows { OnOk result (F.rows facets.new ≡ rows_played (F.limits facets.old) (F.rows facets.old) steps.now) }
     ensures part { OnErr result (IsPart (F.limits facets.old) (F.rows facets.old) (F.rows facets.new) steps.now) }
     ensures limits { F.limits facets.new ≡ F.limits facets.old }

@@ -23,8 +23,10 @@ abbrev pub refused : List Limits → List Write → List Write → List Write
 refused limits w [] = []
 refused limits w (x ∷ puts) = refused_of limits w x ++ refused limits (store_after limits w x) puts
 
--- noninterference of puts from any store: what an observer sees of the store, of the refusals and of the facets is what the puts that he sees make of the store that he sees
+-- noninterference of puts from any store: what an observer sees of the store, of the refusals and of the facets is what
+-- the puts that he sees make of the store that he sees
 pub record AreNoninterferingPuts (limits : List Limits) (flows : ℕ → ℕ → Bool) (o : ℕ) (w puts : List Write) : Type 0 where
   pub store : visible_writes flows o (play limits w puts) ≡ play limits (visible_writes flows o w) (visible_writes flows o puts)
   pub refusals : visible_writes flows o (refused limits w puts) ≡ refused limits (visible_writes flows o w) (visible_writes flows o puts)
-  pub facets_seen : visible_facets flows o (facets (play limits w puts)) ≡ facets (play limits (visible_writes flows o w) (visible_writes flows o puts))
+  pub facets_seen : visible_facets flows o (facets (play limits w puts))
+      ≡ facets (play limits (visible_writes flows o w) (visible_writes flows o puts))

@@ -50,7 +50,8 @@ slot_cmp a b = ordering_then (slice_cmp nat_cmp a.0 b.0) (nat_cmp a.1 b.1)
 abbrev pub Facet : Type 0
 Facet = Slot × Option (List ℕ)
 
--- the live facets after the writes, from those before them, in the order of slots: each write takes the place of the facet of its key and label
+-- the live facets after the writes, from those before them, in the order of slots: each write takes the place of the facet
+-- of its key and label
 abbrev pub facets_after : List Facet → List Write → List Facet
 facets_after fs [] = fs
 facets_after fs (x ∷ w) = facets_after (put slot_cmp (x.key, x.label) x.value fs) w

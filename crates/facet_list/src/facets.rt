@@ -47,8 +47,10 @@ pub trait Facets: Drop {
         requires key { IsKey key.now }
         requires value { IsValue (option_copied value) }
         ensures fits { IfOk result (λ wrote.
-            wrote ≡ (if fits_in (limits self.old) (rows self.old) (written at.number key.now (option_copied value.entry)) then Wrote.Done else Wrote.Full)) }
-        ensures done { result ≡ Ok Wrote.Done → rows self.new ≡ rows_after (rows self.old) (written at.number key.now (option_copied value.entry)) }
+            wrote ≡ (if fits_in (limits self.old) (rows self.old) (written at.number key.now (option_copied value.entry))
+                then Wrote.Done else Wrote.Full)) }
+        ensures done { result ≡ Ok Wrote.Done →
+            rows self.new ≡ rows_after (rows self.old) (written at.number key.now (option_copied value.entry)) }
         ensures full { result ≡ Ok Wrote.Full → rows self.new ≡ rows self.old }
         ensures no_memory { OnErr result (rows self.new ≡ rows self.old) }
         ensures limits { limits self.new ≡ limits self.old };

@@ -11,14 +11,16 @@ ghost use Rattle.facet_list.specs.Views.{AreNoninterfering, AreNoninterferingFro
 
 /// What the rows of writes tell a reader is what the writes tell him.
 pub fn rows_tell_reads()
-    ensures { (flows : ℕ → ℕ → Bool) (c : ℕ) (key : List ℕ) (w : List Write) → read_row flows c (row_of (rows_of w) key) ≡ read flows c key w }
+    ensures { (flows : ℕ → ℕ → Bool) (c : ℕ) (key : List ℕ) (w : List Write) →
+        read_row flows c (row_of (rows_of w) key) ≡ read flows c key w }
 {}
 
 /// The facets of rows are in order, each once, and the list of them is the only such list.
 pub fn facets_of_rows()
     ensures sorted { (rows : Rows) → T (is_sorted slot_cmp (facets_in rows)) }
     ensures found { (rows : Rows) (s : Slot) → find slot_cmp s (facets_in rows) ≡ facet_at rows s }
-    ensures whole { (rows : Rows) (fs : List Facet) → T (is_sorted slot_cmp fs) → ((s : Slot) → find slot_cmp s fs ≡ facet_at rows s) → fs ≡ facets_in rows }
+    ensures whole { (rows : Rows) (fs : List Facet) → T (is_sorted slot_cmp fs)
+        → ((s : Slot) → find slot_cmp s fs ≡ facet_at rows s) → fs ≡ facets_in rows }
 {}
 
 /// For each key and label the facet that the rows of writes have is the last write of the key at that label, and their facets are
@@ -41,5 +43,6 @@ pub fn noninterference_of_facets()
 
 /// What an observer sees of puts under limits is what the puts that he sees make.
 pub fn noninterference_of_puts()
-    ensures { (limits : List LabelLimits) (flows : ℕ → ℕ → Bool) (o : ℕ) (w puts : List Write) → AreNoninterferingPuts limits flows o w puts }
+    ensures { (limits : List LabelLimits) (flows : ℕ → ℕ → Bool) (o : ℕ) (w puts : List Write) →
+        AreNoninterferingPuts limits flows o w puts }
 {}

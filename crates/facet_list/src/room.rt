@@ -19,7 +19,8 @@ pub(crate) fn fits(
     key: &[u8],
     value: Option<&[u8]>,
 ) -> bool
-    ensures { result ≡ are_within (Some limits) (live_in at.number (rows_after (rows_of writes.now) (written at.number key.now (option_copied value.entry)))) }
+    ensures { result ≡ are_within (Some limits) (live_in at.number
+        (rows_after (rows_of writes.now) (written at.number key.now (option_copied value.entry)))) }
 {
     let mut count: u64 = 1;
     let mut bytes = size_of(key, value);
@@ -36,7 +37,8 @@ pub(crate) fn fits(
 
 /// Whether so many facets of so many bytes are within the limits; both may be cut at the greatest number of 64 bits.
 fn is_room(limits: Limits, count: u64, bytes: u64) -> bool
-    ensures { (n sum : ℕ) → count ≡ min n (2 ^ 64 - 1) → bytes ≡ min sum (2 ^ 64 - 1) → result ≡ (nat_le n limits.facets && nat_le sum limits.bytes) }
+    ensures { (n sum : ℕ) → count ≡ min n (2 ^ 64 - 1) → bytes ≡ min sum (2 ^ 64 - 1) →
+        result ≡ (nat_le n limits.facets && nat_le sum limits.bytes) }
 {
     count <= limits.facets as u64 && bytes <= limits.bytes as u64
 }

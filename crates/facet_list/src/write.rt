@@ -110,7 +110,9 @@ impl Write {
 
     /// Whether the write's facet is that of the other or less.
     pub fn is_no_greater(&self, other: &Write) -> bool
-        ensures { MatchBool result (slot_cmp (other.now.key, other.now.label) (self.now.key, self.now.label) ≢ Less) (slot_cmp (other.now.key, other.now.label) (self.now.key, self.now.label) ≡ Less) }
+        ensures { MatchBool result
+            (slot_cmp (other.now.key, other.now.label) (self.now.key, self.now.label) ≢ Less)
+            (slot_cmp (other.now.key, other.now.label) (self.now.key, self.now.label) ≡ Less) }
     {
         compare(&other.key, other.label, &self.key, self.label) != Ordering::Less
     }

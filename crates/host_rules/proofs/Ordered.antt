@@ -4,7 +4,7 @@ use Rattle.std.specs.Prelude.{find, unwrap_or}
 use Rattle.label_lattice.specs.Order.{count}
 use Rattle.label_lattice.specs.Reach.{flows}
 use Rattle.label_lattice.specs.Joins.{is_join, labels, join}
-use Rattle.label_lattice.proofs.Joined.{join_found}
+use Rattle.label_lattice.proofs.FoundJoins.{join_found}
 use Rattle.host_rules.specs.Policies.{AreOrdered}
 
 -- a label flows to its join with another, and to itself where there is none

@@ -7,7 +7,7 @@ use Rattle.std.proofs.lemmas.Bool.{cases_lt}
 use Rattle.std.proofs.lemmas.Nat.{one_shl}
 use Rattle.std.proofs.lemmas.Nat.Bits.{bit_at-zero, bit_at-lt, bit_at_or, shr_and_one, bit_at-pow_same, bit_at-pow_other}
 use Rattle.label_lattice.specs.Rows.{bit, IsClosure}
-use Rattle.label_lattice.proofs.Reaches.{Reaches-none}
+use Rattle.label_lattice.proofs.Paths.{Reaches-none}
 
 one_of : (old by from new : ℕ) → new ≡ max old (min by from) → old < 2 → by < 2 → from < 2 → new ≡ 1 → (old ≡ 1) ⊎ ((by ≡ 1) × (from ≡ 1))
 one_of zero by from new is lo lb lf e = inr (omega arith, omega arith)

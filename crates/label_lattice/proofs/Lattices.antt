@@ -12,9 +12,9 @@ use Rattle.label_lattice.specs.Joins.{labels, labels_from, label_pairs, turned, 
 use Rattle.label_lattice.specs.Faults.{order_fault, cycle_of, no_join_of, no_meet_of, label_of}
 use Rattle.label_lattice.specs.Sound.{IsLattice}
 use Rattle.label_lattice.proofs.Ranges.{is_some_find}
-use Rattle.label_lattice.proofs.Least.{any_label, is_join_exact, and_left, and_right, and_both}
-use Rattle.label_lattice.proofs.Naming.{or_none, not_false}
-use Rattle.label_lattice.proofs.Reaches.{Reaches-here, Reaches-trans, Reaches-within, exact_test}
+use Rattle.label_lattice.proofs.JoinsByBits.{any_label, is_join_exact, and_left, and_right, and_both}
+use Rattle.label_lattice.proofs.NameFaults.{or_none, not_false}
+use Rattle.label_lattice.proofs.Paths.{Reaches-here, Reaches-trans, Reaches-within, exact_test}
 use Rattle.label_lattice.specs.Rows.{ArePairs}
 
 -- the test of some number of a range

@@ -70,7 +70,9 @@ impl Limits {
 
 /// The number, if it lies in the range of this limit.
 fn within(which: u8, number: i64, least: u32, greatest: u32) -> Result<u32, LimitError>
-    ensures { MatchResult result (λ n. (is_within (least, greatest) number ≡ true) × (pos n ≡ number)) (λ e. (is_within (least, greatest) number ≡ false) × (e ≡ OutOfRange which)) }
+    ensures { MatchResult result
+        (λ n. (is_within (least, greatest) number ≡ true) × (pos n ≡ number))
+        (λ e. (is_within (least, greatest) number ≡ false) × (e ≡ OutOfRange which)) }
 {
     match u32::try_from(number) {
         Ok(number) if least <= number && number <= greatest => Ok(number),

@@ -50,7 +50,8 @@ impl<T> Queues<T> {
 
     /// An empty list for each of these limits, which may have as many items as the limit `queue` says.
     pub fn new(alloc: Global, limits: &[Limits]) -> Result<Queues<T>, NoMemory>
-        ensures { IfOk result (λ queues. queues ≡ record { lists = replicate (length limits.now) []; limits = map (λ l. l.queue) limits.now }) }
+        ensures { IfOk result (λ queues. queues
+            ≡ record { lists = replicate (length limits.now) []; limits = map (λ l. l.queue) limits.now }) }
     {
         let keys = KeyLists::new(alloc, limits.len())?;
         let limits = queue_limits(alloc, limits)?;

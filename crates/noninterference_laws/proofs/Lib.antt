@@ -1,2 +1,2 @@
-pub mod Alike
-pub mod Lesser
+pub mod AlikeRuns
+pub mod LesserViews

@@ -1,4 +1,4 @@
 pub mod ByLabel
 pub mod Memory
 pub mod Rows
-pub mod Whole
+pub mod WholePolicy

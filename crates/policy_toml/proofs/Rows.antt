@@ -17,7 +17,7 @@ use Rattle.toml.specs.View.{view, items_view, members_view}
 use Rattle.toml.specs.declared.value.Value.{Value}
 use Rattle.toml.proofs.Views.{Entry}
 use Rattle.label_lattice.specs.declared.label.Label.{Label}
-use Rattle.label_lattice.proofs.Halves.{apart_from}
+use Rattle.label_lattice.proofs.BinarySearch.{apart_from}
 use Rattle.policy_toml.specs.declared.place.Part.{Part}
 use Rattle.policy_toml.specs.declared.error.PolicyError.{PolicyError}
 use Rattle.policy_toml.specs.declared.error.PolicyError.TheVariants.{Toml, OutOfRange}

@@ -38,7 +38,8 @@ where_written (Some d) read = read d
 
 -- the keys of the root, and of the rows of a part
 abbrev pub keys_of : Part → List (List ℕ)
-keys_of part.Root = codes "labels" ∷ codes "flows" ∷ codes "limits" ∷ codes "functions" ∷ codes "channels" ∷ codes "clients" ∷ codes "gates" ∷ []
+keys_of part.Root = codes "labels" ∷ codes "flows" ∷ codes "limits" ∷
+    codes "functions" ∷ codes "channels" ∷ codes "clients" ∷ codes "gates" ∷ []
 keys_of part.Labels = []
 keys_of part.Flows = []
 keys_of part.Limits = codes "quantum" ∷ codes "fuel" ∷ codes "pages" ∷ codes "queue" ∷ codes "facets" ∷ codes "bytes" ∷ []

@@ -47,7 +47,8 @@ fn channel_rows(
 ) -> Result<Channels, PolicyError>
     requires ascend { Ascend functions.now }
     requires few { length functions.now ≤ 256 }
-    ensures read { Reads (λ channels. channels) (each_row (channel_row lattice.now.names functions.now) 1 (members_of (table_view table.now))) result }
+    ensures read { Reads (λ channels. channels) (each_row (channel_row lattice.now.names functions.now) 1
+        (members_of (table_view table.now))) result }
     ensures below { IfOk result (All (IsChannel (count lattice.now) (length functions.now))) }
 {
     let mut channels = Channels::new(alloc);

@@ -50,7 +50,8 @@ fn gate_rows(
 ) -> Result<Gates, PolicyError>
     requires ascend { Ascend functions.now }
     requires few { length functions.now ≤ 256 }
-    ensures read { Reads (λ gates. gates) (each_row (gate_row lattice.now.names functions.now) 1 (members_of (table_view table.now))) result }
+    ensures read { Reads (λ gates. gates) (each_row (gate_row lattice.now.names functions.now) 1
+        (members_of (table_view table.now))) result }
     ensures below { IfOk result (All (IsGate (count lattice.now) (length functions.now))) }
 {
     let mut gates = Gates::new(alloc);

@@ -1,2 +1,2 @@
-pub mod Ends
-pub mod Written
+pub mod RunEnds
+pub mod WrittenMemory

@@ -22,7 +22,7 @@ use Rattle.host_rules.specs.Wishes as wishes
 use Rattle.shim_calls.specs.declared.effect.Effect.TheVariants as effect
 use Rattle.shim_calls.specs.declared.wish.Wish.TheVariants as asks
 use Rattle.shim_calls.specs.Performing.{made, Resumes}
-use Rattle.shim_calls.proofs.Shown.{Means}
+use Rattle.shim_calls.proofs.ShownWishes.{Means}
 use Rattle.shim_calls.proofs.Resuming.{resumed}
 
 either : {A : Type 0} (Q : A → Type 0) (b : Bool) (x y : A) → Q x → Q y → Q (if b then x else y)

@@ -1,6 +1,6 @@
-pub mod Fit
+pub mod NamesWithinCounts
 pub mod Granting
-pub mod Raised
+pub mod Raises
 pub mod Resuming
-pub mod Shown
+pub mod ShownWishes
 pub mod Writing

@@ -10,7 +10,7 @@ use Rattle.event_file.specs.declared.fault.LineError.{LineError}
 use Rattle.event_file.specs.declared.next.Next.TheVariants as next
 use Rattle.policy_toml.specs.Parts.{Parts}
 use Rattle.trapeze_cli.specs.Playing.{IsPaced}
-use Rattle.trapeze_cli.proofs.Passing.{Stays}
+use Rattle.trapeze_cli.proofs.PassedLines.{Stays}
 
 -- the bytes of lines, each with its end
 abbrev weight : List (List ℕ) → ℕ

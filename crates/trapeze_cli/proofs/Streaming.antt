@@ -31,8 +31,8 @@ use Rattle.trapeze_cli.specs.Playing.{AppendsBy, said_of, lines_from, IsDry, Dra
 use Rattle.trapeze_cli.proofs.Showing.{said-append}
 use Rattle.trapeze_cli.proofs.Prefixes.{by_after, prefix_after, prefix_wider, less_after, less_wider}
 use Rattle.trapeze_cli.proofs.Playing.{state_after, state_both, trace_both}
-use Rattle.trapeze_cli.proofs.Hearing.{Begins, heard_begins, heard_good}
-use Rattle.trapeze_cli.proofs.Following.{follows_passed, heard_dry, played_begins, played_bad, played_whole, played_past}
+use Rattle.trapeze_cli.proofs.HeardPrefixes.{Begins, heard_begins, heard_good}
+use Rattle.trapeze_cli.proofs.FollowedFile.{follows_passed, heard_dry, played_begins, played_bad, played_whole, played_past}
 
 -- the texts
 

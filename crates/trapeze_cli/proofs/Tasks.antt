@@ -10,7 +10,7 @@ use Rattle.wasm_ast.specs.Faults as fault
 use Rattle.wasm_ast.specs.Validity.{Valid, Invalidity}
 use Rattle.wasm_ast.proofs.OneFault as one
 use Rattle.wasm_decode.specs.Grammar.{Spells}
-use Rattle.wasm_decode.proofs.Whole.{module_one, module_or_fault, one_fault}
+use Rattle.wasm_decode.proofs.ModulesBothWays.{module_one, module_or_fault, one_fault}
 use Rattle.wasm_validate.specs.Invalids.{fault_of}
 use Rattle.wasm_validate.specs.declared.invalid.Invalid.{Invalid as InvalidFault}
 use Rattle.wasm_validate.specs.declared.invalid.Invalid.TheVariants as invalid

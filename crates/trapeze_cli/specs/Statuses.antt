@@ -158,7 +158,8 @@ named_in (Some form) held = named_by (policy_in held (policy_name form))
 -- the line of a status on the error sink: nothing after Done
 abbrev pub error_text : Option Form → Named → Status → List ℕ
 error_text form names Done = []
-error_text form names Usage = codes "usage: trapeze run POLICY EVENTS | trace POLICY EVENTS | view POLICY EVENTS LABEL | check POLICY | exercise N\n"
+error_text form names Usage =
+    codes "usage: trapeze run POLICY EVENTS | trace POLICY EVENTS | view POLICY EVENTS LABEL | check POLICY | exercise N\n"
 error_text form names (Policy fault) = policy_text fault
 error_text form names (Module f fault) =
     codes "module " ++ slice_index_or names.functions f [] ++ codes ": " ++ module_text fault ++ codes "\n"

@@ -1,5 +1,5 @@
-pub mod Typed
-pub mod Read
-pub mod Words
-pub mod Fits
+pub mod ValidModules
+pub mod ReadModules
+pub mod IdsAreNames
+pub mod PlayableEvents
 pub mod Policies

@@ -64,7 +64,9 @@ impl Model for MemFiles {
 
     ghost Value = { FilesState };
 
-    ghost view = { λ s. record { held = reverse s.held.items; current = open_at s.held.items s.current s.at; opens = s.opens; last_name = last_name_in s.held.items s.last_name; faults = s.faults; mark = s.mark; plan = s.plan } };
+    ghost view = { λ s. record { held = reverse s.held.items; current = open_at s.held.items s.current s.at;
+        opens = s.opens; last_name = last_name_in s.held.items s.last_name;
+        faults = s.faults; mark = s.mark; plan = s.plan } };
 
     ghost invariant = { λ s. IsOpenAt s.held.items s.current s.at × IsNamedIn s.held.items s.last_name };
 }
@@ -109,7 +111,8 @@ impl MemFiles {
 
     /// Lets the call with this number fail, counting opens and reads from 1.
     pub fn fail_at(&mut self, call: u32) -> Result<(), NoMemory>
-        ensures ok { OnOk result (self.new ≡ record self.old { plan = record self.old.plan { failing = self.old.plan.failing ++ call ∷ [] } }) }
+        ensures ok { OnOk result (self.new
+            ≡ record self.old { plan = record self.old.plan { failing = self.old.plan.failing ++ call ∷ [] } }) }
         ensures err { OnErr result (self.new ≡ self.old) }
     {
         self.plan.fail_at(call)

@@ -41,7 +41,8 @@ impl MemSink {
 
     /// Lets the write with this number fail, counting from 1.
     pub fn fail_at(&mut self, call: u32) -> Result<(), NoMemory>
-        ensures ok { OnOk result (self.new ≡ record self.old { plan = record self.old.plan { failing = self.old.plan.failing ++ call ∷ [] } }) }
+        ensures ok { OnOk result (self.new
+            ≡ record self.old { plan = record self.old.plan { failing = self.old.plan.failing ++ call ∷ [] } }) }
         ensures err { OnErr result (self.new ≡ self.old) }
     {
         self.plan.fail_at(call)

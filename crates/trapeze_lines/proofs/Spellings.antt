@@ -18,7 +18,7 @@ use Rattle.hex.proofs.HexLemmas.{decode_of-encode_lower, decode_of-ok}
 use Rattle.trapeze_io.specs.Answers.{◌>>=◌}
 use Rattle.trapeze_io.specs.Names.{is_name}
 use Rattle.label_lattice.specs.Order.{place_of}
-use Rattle.label_lattice.proofs.Firsts.{none_passes}
+use Rattle.label_lattice.proofs.FirstPositions.{none_passes}
 use Rattle.std.proofs.lemmas.List.Quantifiers.{position-Some}
 use Rattle.label_lattice.specs.Sound.{AreNames}
 use Rattle.label_lattice.specs.declared.label.Label.{Label}

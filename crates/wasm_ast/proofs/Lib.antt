@@ -10,3 +10,4 @@ pub mod Refused
 pub mod Derivations
 pub mod Worked
 pub mod OneFault
+pub mod SameTypes

@@ -43,7 +43,7 @@ pub use pieces::Piece;
 pub use places::{FloatPlace, SegmentPlace};
 pub use tables::Table;
 pub use trees::{Instr, Seq};
-pub use val_types::{BlockType, ValType};
+pub use val_types::{BlockType, ValType, same_types};
 
 #[cfg(test)]
 mod tests;

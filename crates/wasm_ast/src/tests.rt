@@ -18,6 +18,19 @@ fn reads_a_function_type(rt: HostRuntime) -> Result<(), Fail> {
 }
 
 #[test]
+fn compares_types(rt: HostRuntime) {
+    let pair = [ValType::I32, ValType::I64];
+    let other = [ValType::I32, ValType::F32];
+    assert!(rt;
+        same_types(&pair, &[ValType::I32, ValType::I64])
+            && !same_types(&pair, &other)
+            && !same_types(&pair, &[ValType::I32])
+            && !same_types(&[], &pair)
+            && same_types(&[], &[])
+    );
+}
+
+#[test]
 fn reads_limits(rt: HostRuntime) {
     let table = Table::new(1, Some(2));
     assert!(rt; table.minimum() == 1 && table.maximum() == Some(2));

@@ -1,5 +1,5 @@
 pub mod Cuts
 pub mod Levels
-pub mod Owns
+pub mod OwnBlocks
 pub mod Rests
-pub mod Goings
+pub mod BlocksOnStacks

@@ -10,10 +10,10 @@ use Rattle.wasm_code.specs.Places.{Fails, Place, part}
 use Rattle.wasm_code.specs.Fields.{filling}
 use Rattle.wasm_code.specs.Reading.{expr, expr_to, body}
 use Rattle.wasm_code.specs.Grammar.{Expr, ExprTo, IsBody}
-use Rattle.wasm_code.proofs.Joined.{bind, bind_ok, ok_is, here}
-use Rattle.wasm_code.proofs.Fielded.{filling_sound, filling_complete}
-use Rattle.wasm_code.proofs.Bodied.{expr_reads, body_reads}
-use Rattle.wasm_code.proofs.Moving.{expr_goes}
+use Rattle.wasm_code.proofs.Agreements.{bind, bind_ok, ok_is, here}
+use Rattle.wasm_code.proofs.FieldsBothWays.{filling_sound, filling_complete}
+use Rattle.wasm_code.proofs.BodiesBothWays.{expr_reads, body_reads}
+use Rattle.wasm_code.proofs.BodyExtents.{expr_goes}
 use Rattle.wasm_code.specs.Answers.{Gives, OrNoMemory}
 
 -- what is read is all that is spelled

@@ -5,7 +5,7 @@ use Rattle.std.proofs.lemmas.Str.{IsUtf8-from_is_utf8, is_utf8-from_IsUtf8}
 use Rattle.wasm_code.specs.declared.error.DecodeError.TheVariants.{Malformed}
 use Rattle.wasm_code.specs.Places.{Place, ◌>>=◌, check}
 use Rattle.wasm_code.specs.Fields.{bytes, name}
-use Rattle.wasm_code.proofs.Joined.{bind, checked}
+use Rattle.wasm_code.proofs.Agreements.{bind, checked}
 
 pub is_name : (p : Place) (text : List ℕ × Place) → bytes p ≡ Ok text → IsUtf8 text.0 → name p ≡ Ok text
 unfolding name

@@ -10,7 +10,7 @@ use Rattle.wasm_code.specs.declared.frames.Frame.{Frame}
 use Rattle.wasm_code.specs.Places.{Place, ◌>>=◌, byte}
 use Rattle.wasm_code.specs.Answers.{Stops}
 use Rattle.wasm_code.specs.Reading.{Next, More, end, otherwise, enter, instruction, plain, act, step, steps, go, go_on, expr}
-use Rattle.wasm_code.proofs.Joined.{bind}
+use Rattle.wasm_code.proofs.Agreements.{bind}
 use Rattle.wasm_code.proofs.Loops.{stops_whole}
 use Rattle.std.proofs.Common.{length}
 

@@ -15,8 +15,8 @@ use Rattle.wasm_code.specs.Opcodes.{Kind, Bare, Zero, Index, IndexZero, Labels, 
 use Rattle.wasm_code.specs.Spelling.{Then, Byte, U32, S32, S64, Bits32, Bits64, Vector}
 use Rattle.wasm_code.specs.Reading.{block_type, zero_byte, bulk, immediates, Next, More, Whole, end, otherwise, otherwise_at, room, enter, plain, act, step, go_on, steps, go}
 use Rattle.wasm_code.specs.Grammar.{Follows}
-use Rattle.wasm_code.proofs.Joined.{bind, bind_ok, ok_is, here, Was, Reads, byte_shorter, tag_sound, tag_complete, tagged, split, map1, map2}
-use Rattle.wasm_code.proofs.Fielded.{u32_reads, s32_reads, s64_reads, bits32_reads, bits64_reads, vector_reads, block_type_reads}
+use Rattle.wasm_code.proofs.Agreements.{bind, bind_ok, ok_is, here, Was, Reads, byte_shorter, tag_sound, tag_complete, tagged, split, map1, map2}
+use Rattle.wasm_code.proofs.FieldsBothWays.{u32_reads, s32_reads, s64_reads, bits32_reads, bits64_reads, vector_reads, block_type_reads}
 
 zero_reads : (made : Instr) → Reads (Follows (Zero made)) (immediates (Zero made))
 zero_reads made = record {

@@ -11,19 +11,19 @@ use Rattle.wasm_code.specs.Reading.{Next, More, Whole}
 abbrev pub place : Input → Place
 place input = record { rest = input.rest.now; at = input.at }
 
--- the first fault, unless there was no memory
+-- the first fault, unless the call is out of memory
 abbrev pub Stops : {X : Type 0} → DecodeError → Result X DecodeError → Type 0
 Stops (Malformed at) reading = reading ≡ Err (Malformed at)
 Stops (TooDeep at) reading = reading ≡ Err (TooDeep at)
 Stops (TooManyLocals f) reading = reading ≡ Err (TooManyLocals f)
 Stops NoMemory reading = Unit {0}
 
--- what was read, seen by view, or the first fault, unless there was no memory
+-- what was read, seen by view, or the first fault, unless the call is out of memory
 abbrev pub Gives : {A X : Type 0} → (A → X) → Result A DecodeError → Result X DecodeError → Type 0
 Gives view (Ok a) reading = reading ≡ Ok (view a)
 Gives view (Err e) reading = Stops e reading
 
--- this answer, or there was no memory
+-- this answer, or out of memory
 abbrev pub OrNoMemory : {X : Type 0} → Result X DecodeError → Result X DecodeError → Type 0
 OrNoMemory result answer = (result ≡ answer) ⊎ (result ≡ Err NoMemory)
 

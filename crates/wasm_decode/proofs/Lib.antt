@@ -1,8 +1,8 @@
-pub mod Entries
+pub mod MembersBothWays
 pub mod Greedy
-pub mod Whole
-pub mod Passing
-pub mod Numbered
+pub mod ModulesBothWays
+pub mod CustomSections
+pub mod NumberedBodies
 pub mod Answered
-pub mod Moving
-pub mod Few
+pub mod SectionExtents
+pub mod MemberCounts

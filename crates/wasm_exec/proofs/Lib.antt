@@ -1,10 +1,10 @@
 pub mod Courses
 pub mod Entries
-pub mod Finds
+pub mod FoundCode
 pub mod Machines
 pub mod Measures
 pub mod Rests
 pub mod Rows
 pub mod Segments
-pub mod Wakes
-pub mod Words
+pub mod WokenFrames
+pub mod ValuesInTurn

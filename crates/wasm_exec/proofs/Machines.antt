@@ -31,7 +31,7 @@ use Rattle.wasm_blocks.specs.declared.open.Open.{Open}
 use Rattle.wasm_blocks.specs.Levels.{Around, spot_in}
 use Rattle.wasm_blocks.specs.Rest.{nexts_in}
 use Rattle.wasm_blocks.proofs.Levels.{height_of, heights, spot_more}
-use Rattle.wasm_blocks.proofs.Goings.{lower}
+use Rattle.wasm_blocks.proofs.BlocksOnStacks.{lower}
 use Rattle.wasm_frames.specs.declared.active.Place.{Place}
 use Rattle.wasm_frames.specs.Resting.{body_of, frames_at_rest, AreResting}
 use Rattle.wasm_frames.specs.Standing.{store_of}

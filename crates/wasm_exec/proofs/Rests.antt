@@ -36,7 +36,7 @@ use Rattle.wasm_exec.specs.Codes.{HasLaid}
 use Rattle.wasm_exec.specs.Going.{active_at, place_of, code_at, IsGoing, HasWarmed}
 use Rattle.wasm_exec.specs.Resting.{thread_at_rest, AreAtRest, CanGoOn, AwaitsAnswer, HasCalled, Rests, HasGrown}
 use Rattle.wasm_exec.specs.Rounds.{ended, IsLeft, HasStopped, Comes}
-use Rattle.wasm_exec.proofs.Wakes.{wakes, rests}
+use Rattle.wasm_exec.proofs.WokenFrames.{wakes, rests}
 
 units_are : (m : Module) (pages count : ℕ) (t : Thread) → units m pages t count ≡ units_from m pages 0 count t
 unfolding units

@@ -34,7 +34,8 @@ pub record CanGoOn (m : Module) (st : Store) (p : Place) (ps : List Place) (valu
   pub rests : AreAtRest p ps values opens
 
 -- a thread of the module that waits for an answer, for which there is a place
-pub record AwaitsAnswer (m : Module) (st : Store) (h : HostName) (p : Place) (ps : List Place) (values : List ℕ) (opens : List Open) : Type 0 where
+pub record AwaitsAnswer (m : Module) (st : Store) (h : HostName) (p : Place) (ps : List Place)
+    (values : List ℕ) (opens : List Open) : Type 0 where
   pub waits : IsWaiting m h (thread_at_rest m st (p ∷ ps) values opens)
   pub memory : IsMemory (memory_of m) st.memory
   pub rests : AreAtRest p ps values opens

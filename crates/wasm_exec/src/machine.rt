@@ -86,7 +86,8 @@ impl Machine {
     pub fn run(&mut self, module: &ValidModule, pages: u32, units: u64) -> Ran
         requires { IsReady module.now self.old }
         ensures within { result.used ≤ units }
-        ensures stops { Stops module.now (units_of module.now pages (thread_of module.now self.old) units) result.used result.stop self.new }
+        ensures stops { Stops module.now (units_of module.now pages (thread_of module.now self.old) units)
+            result.used result.stop self.new }
     {
         let rested = run_units(
             self.alloc,

@@ -58,7 +58,8 @@ pub(crate) fn find_rest<'m>(
     requires order { place.low ≤ high }
     requires within { high ≤ length opens.now }
     ensures code { IfOk result (λ code. code.now ≡ code_at program.now place (under high opens.now)) }
-    ensures nexts { OnOk result (HasLaid (body_of program.now place.function) (above place.low (under high opens.now)) nexts.old nexts.new) }
+    ensures nexts { OnOk result (HasLaid (body_of program.now place.function) (above place.low (under high opens.now))
+        nexts.old nexts.new) }
 {
     let code = find_code(program, place.function, opens, place.low, high, nexts)?;
     Ok(last_of(code, place.left))

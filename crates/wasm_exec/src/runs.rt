@@ -53,7 +53,8 @@ pub(crate) fn run_units(
     requires valid { Valid program.now }
     requires callees { AreCallees program.now callees.now }
     requires maximum { page_limit program.now ≡ memory.old.maximum }
-    requires rests { CanGoOn program.now (store_of memory.old.bytes globals.old.items table.now) place places.old values.old.items opens.old }
+    requires rests { CanGoOn program.now (store_of memory.old.bytes globals.old.items table.now) place
+        places.old values.old.items opens.old }
     ensures maximum { memory.new.maximum ≡ memory.old.maximum }
     ensures within { result.ran.used ≤ count }
     ensures rests { let store = store_of memory.old.bytes globals.old.items table.now in

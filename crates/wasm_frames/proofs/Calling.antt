@@ -34,7 +34,7 @@ use Rattle.wasm_frames.specs.Standing.{Held, held, spot_at, nexts_under, AreWarm
 use Rattle.wasm_frames.specs.Callees.{IsEntry, IsHost}
 use Rattle.wasm_frames.specs.Turns.{Went, HasAsked}
 use Rattle.wasm_frames.proofs.Resting.{same_frames, frame_warm}
-use Rattle.wasm_frames.proofs.Fewer.{own_operands, with_sp, sp_room, fewer_stands, fewer_placed, spot_lowered, args_behind}
+use Rattle.wasm_frames.proofs.FewerOperands.{own_operands, with_sp, sp_room, fewer_stands, fewer_placed, spot_lowered, args_behind}
 
 at_least : (n k : ℕ) → nat_lt n k ≡ false → k ≤ n
 at_least n k h = grind (arith, nat_tests)

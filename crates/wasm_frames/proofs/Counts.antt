@@ -27,7 +27,7 @@ use Rattle.wasm_frames.specs.Resting.{body_of, frames_at_rest, BeginsAt, AreRest
 use Rattle.wasm_frames.specs.Standing.{Held, spot_at, thread_in, IsStanding}
 use Rattle.wasm_frames.specs.Callees.{IsEntry}
 use Rattle.wasm_frames.specs.Turns.{IsPast, IsBounded}
-use Rattle.wasm_frames.proofs.Fewer.{own_operands, with_sp, sp_room, fewer_stands, spot_lowered}
+use Rattle.wasm_frames.proofs.FewerOperands.{own_operands, with_sp, sp_room, fewer_stands, spot_lowered}
 use Rattle.wasm_frames.proofs.Calling.{call_own}
 
 pub levels_values : (code : List Instr) (nexts : List (List Instr)) (own : List Open) (ops : List ℕ) (n : ℕ) → length ops ≡ n → IsTower own n → all_in (level_in code nexts own ops ∷ levels_in nexts own ops) ≡ n

@@ -1,10 +1,9 @@
 pub mod Calling
 pub mod Counts
-pub mod Ends
-pub mod Fewer
+pub mod FrameEnds
+pub mod FewerOperands
 pub mod Lifts
 pub mod Resting
 pub mod TestFrames
-pub mod Through
+pub mod TableCalls
 pub mod TwoFunctions
-pub mod TypeLemmas

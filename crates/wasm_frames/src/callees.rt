@@ -1,9 +1,9 @@
 //! Functions as calls need them.
 
 ghost use Rattle.std.specs.Prelude.{◌≡◌, length};
-ghost use Rattle.wasm_ast.specs.Hosts.{host_params, same_val_types, same_type};
+ghost use Rattle.wasm_ast.specs.Hosts.{host_params, same_type};
 
-use wasm_ast::{FuncType, HostName, ValType};
+use wasm_ast::{FuncType, HostName, same_types};
 
 /// A function that the module defines.
 #[derive(Clone, Copy, Debug)]
@@ -34,13 +34,6 @@ pub struct Callee {
     pub params: usize,
     /// What runs when it is called.
     pub runs: Runs,
-}
-
-/// Whether the lists of types are the same.
-fn same_types(types: &[ValType], others: &[ValType]) -> bool
-    ensures { result ≡ same_val_types types.now others.now }
-{
-    types == others
 }
 
 /// Whether the types of functions are the same in structure.

@@ -33,7 +33,8 @@ leb signed top (b ∷ bytes) =
 abbrev pub Spells : Bool → ℕ → ℕ → List ℕ → Type 0
 Spells signed top n [] = ⊥
 Spells signed top n (b ∷ []) = (b < 128) × (last signed top b ≡ Ok (n, 1))
-Spells signed top n (b ∷ c ∷ bytes) = (128 ≤ b) × (127 < top) × (high : ℕ) × (n ≡ b - 128 + 128 * high) × Spells signed (top / 128) high (c ∷ bytes)
+Spells signed top n (b ∷ c ∷ bytes) = (128 ≤ b) × (127 < top) × (high : ℕ) × (n ≡ b - 128 + 128 * high)
+    × Spells signed (top / 128) high (c ∷ bytes)
 
 -- the three integers of the format: u32, s32 and s64, the signed ones by their bits
 abbrev pub u32 : List ℕ → Result (ℕ × ℕ) LebError

@@ -2,7 +2,7 @@ pub mod Values
 pub mod Combinators
 pub mod Numbers
 pub mod Memories
-pub mod Datas
+pub mod DataEffects
 pub mod Frames
 pub mod Control
 pub mod Units
@@ -14,9 +14,9 @@ pub mod Written
 pub mod Echo
 pub mod Spin
 pub mod Cases
-pub mod Keeps
+pub mod MemoryLengths
 pub mod Pages
-pub mod Flat
+pub mod DeeperOperands
 pub mod Memory
 pub mod Operands
 pub mod Counts

@@ -17,7 +17,7 @@ use Rattle.wasm_semantics.specs.OfModule.{Holds, IsStore, Shape, labels_of, Leve
 use Rattle.wasm_ast.proofs.Typings.{IsPlain, plain_of, block_of, loop_of, if_of, at_end, uncons}
 use Rattle.wasm_semantics.proofs.Combinators.{if_rule}
 use Rattle.wasm_semantics.proofs.Frames.{Inside, Here, HasLocals, Stood, inside_of, goes_rule, leave_rule}
-use Rattle.wasm_semantics.proofs.Datas.{Fine, IsOnData, data_fine}
+use Rattle.wasm_semantics.proofs.DataEffects.{Fine, IsOnData, data_fine}
 use Rattle.wasm_semantics.proofs.Control.{Next, within, labels, Takes, block_sound, loop_sound, if_sound, br_sound, br_if_sound, br_table_sound, return_sound, call_sound, call_indirect_sound}
 
 applied_rule : {m : Module} {p : Spot} (x : Next m p) (e : Effect) → Fine (within x) x.after e → Sound m (applied p e)

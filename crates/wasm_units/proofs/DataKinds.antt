@@ -8,7 +8,7 @@ use Rattle.wasm_ast.specs.Trees.{Layer, layer, layer_nop, layer_drop, layer_sele
 use Rattle.wasm_semantics.specs.Threads.{Stuck}
 use Rattle.wasm_semantics.specs.Control.{Spot}
 use Rattle.wasm_semantics.specs.Units.{act}
-use Rattle.wasm_units.proofs.Datas.{IsData}
+use Rattle.wasm_units.proofs.DataUnits.{IsData}
 
 pub is_data : (i : Instr) → (((i ≡ V.Nop)) ⊎ (((i ≡ V.Drop)) ⊎ (((i ≡ V.Select)) ⊎ (((x : ℕ) × (i ≡ V.LocalGet x)) ⊎ (((x : ℕ) × (i ≡ V.LocalSet x)) ⊎ (((x : ℕ) × (i ≡ V.LocalTee x)) ⊎ (((x : ℕ) × (i ≡ V.GlobalGet x)) ⊎ (((x : ℕ) × (i ≡ V.GlobalSet x)) ⊎ (((x : ℕ) × (y : ℕ) × (z : ℕ) × (i ≡ V.Load x y z)) ⊎ (((x : ℕ) × (y : ℕ) × (z : ℕ) × (i ≡ V.Store x y z)) ⊎ (((i ≡ V.MemorySize)) ⊎ (((i ≡ V.MemoryGrow)) ⊎ (((i ≡ V.MemoryCopy)) ⊎ (((i ≡ V.MemoryFill)) ⊎ (((x : ℕ) × (i ≡ V.I32Const x)) ⊎ (((x : ℕ) × (i ≡ V.I64Const x)) ⊎ ((x : ℕ) × (i ≡ V.Num x)))))))))))))))))) → IsData (layer i)
 is_data i (inl h) = let P : Layer → Type 0 = λ y. IsData y in subst P (sym (ap layer h ∙ layer_nop)) tt

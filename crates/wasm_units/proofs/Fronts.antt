@@ -19,10 +19,10 @@ use Rattle.wasm_frames.specs.declared.turns.Turn.{Turn}
 use Rattle.wasm_frames.specs.Resting.{body_of}
 use Rattle.wasm_frames.specs.Standing.{Held, spot_at, thread_in, IsStanding, IsPlaced}
 use Rattle.wasm_frames.specs.Turns.{Answered}
-use Rattle.wasm_frames.proofs.Fewer.{own_operands}
+use Rattle.wasm_frames.proofs.FewerOperands.{own_operands}
 use Rattle.wasm_units.specs.Acts.{CanAct, Acts, IsBehind}
 use Rattle.wasm_units.proofs.Takes.{passed, takes, typed_act, pops}
-use Rattle.wasm_units.proofs.Comes.{passed_placed}
+use Rattle.wasm_units.proofs.UnitOutcomes.{passed_placed}
 
 pub record Front (m : Module) (st : Store) (a : Active) (h : Held) (i : Instr) (rest : Bor (List Instr)) : Type 0 where
   pub valid : Valid m

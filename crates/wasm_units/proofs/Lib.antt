@@ -1,10 +1,10 @@
 pub mod DataKinds
-pub mod Datas
+pub mod DataUnits
 pub mod Fronts
 pub mod Moving
 pub mod Needs
 pub mod Opening
-pub mod Popped
+pub mod PoppedFrames
 pub mod Spinning
-pub mod Comes
+pub mod UnitOutcomes
 pub mod Takes

@@ -18,21 +18,21 @@ use Rattle.wasm_blocks.specs.Levels.{Around, values_in, spot_in, IsTower}
 use Rattle.wasm_blocks.specs.Runs.{own_nexts}
 use Rattle.wasm_blocks.proofs.Cuts.{length_under}
 use Rattle.wasm_blocks.proofs.Levels.{height_of, heights}
-use Rattle.wasm_blocks.proofs.Goings.{lower}
+use Rattle.wasm_blocks.proofs.BlocksOnStacks.{lower}
 use Rattle.wasm_frames.specs.declared.active.Active.{Active}
 use Rattle.wasm_frames.specs.Resting.{frames_at_rest}
 use Rattle.wasm_frames.specs.Standing.{Held, held, store_of, spot_at, IsStanding, IsPlaced}
 use Rattle.wasm_frames.specs.Turns.{Went, IsPast, Answered}
 use Rattle.wasm_frames.proofs.Counts.{levels_values, rest_values}
 use Rattle.wasm_frames.proofs.Lifts.{below_stays}
-use Rattle.wasm_frames.proofs.Fewer.{own_operands, with_sp}
+use Rattle.wasm_frames.proofs.FewerOperands.{own_operands, with_sp}
 use Rattle.wasm_units.proofs.Takes.{passed, takes, fits, fits_many}
 use Rattle.wasm_semantics.specs.Operands.{operand_types, LieOnTop}
 use Rattle.wasm_data.specs.declared.moved.Moved.{Moved}
 use Rattle.wasm_data.specs.declared.moved.Moved.TheVariants as moved
 use Rattle.wasm_units.specs.Acts.{turn_of}
 use Rattle.wasm_units.proofs.Fronts.{Front, ruled, placed_behind}
-use Rattle.wasm_units.proofs.Datas.{IsData, act_data, deep_of, data_by, moves_whole, traps_whole, whole_typed, fits_whole}
+use Rattle.wasm_units.proofs.DataUnits.{IsData, act_data, deep_of, data_by, moves_whole, traps_whole, whole_typed, fits_whole}
 
 -- what lies around the levels
 abbrev pub around_of : Module → Store → Active → Held → Around

@@ -27,9 +27,9 @@ use Rattle.wasm_frames.specs.declared.callees.Runs.{Runs}
 use Rattle.wasm_frames.specs.declared.callees.Runs.TheVariants as runs
 use Rattle.wasm_frames.specs.Callees.{IsRun, IsHost, AreCallees, HasArguments, AreTypes}
 use Rattle.wasm_frames.proofs.Calling.{found, some_there}
-use Rattle.wasm_frames.proofs.Through.{through_same}
+use Rattle.wasm_frames.proofs.TableCalls.{through_same}
 use Rattle.wasm_semantics.specs.OfModule.{IsStore}
-use Rattle.wasm_frames.proofs.Fewer.{own_operands}
+use Rattle.wasm_frames.proofs.FewerOperands.{own_operands}
 
 many_there : (n k : ℕ) (x : Outcome) (b : Bool) → nat_lt n k ≡ b → (if b then Stuck else x) ≢ Stuck → k ≤ n
 many_there n k x true e h = absurd (h refl)

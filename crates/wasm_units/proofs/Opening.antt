@@ -20,7 +20,7 @@ use Rattle.wasm_frames.specs.Standing.{held, spot_at, IsStanding, IsPlaced}
 use Rattle.wasm_frames.specs.Turns.{Answered}
 use Rattle.wasm_frames.proofs.Lifts.{with_hot, lifts}
 use Rattle.wasm_units.specs.Acts.{inside_of}
-use Rattle.wasm_units.proofs.Comes.{went_by}
+use Rattle.wasm_units.proofs.UnitOutcomes.{went_by}
 
 pub entered : {E : Type 0} (m : Module) (pages : ℕ) (st : Store) (i : Instr) (y : Layer) (a q : Active) (r : Result Hot E)
     (ps : List Place) (cs : List (Bor (List Instr))) (values : List ℕ) (os os' : List Open) (ns ns' : List (Bor (List Instr)))

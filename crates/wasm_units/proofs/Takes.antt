@@ -32,7 +32,7 @@ use Rattle.wasm_blocks.specs.Runs.{own_nexts}
 use Rattle.wasm_blocks.proofs.Levels.{height_of, spot_more}
 use Rattle.wasm_frames.specs.declared.active.Active.{Active}
 use Rattle.wasm_frames.specs.Standing.{Held, spot_at, thread_in, IsStanding}
-use Rattle.wasm_frames.proofs.Fewer.{own_operands, with_sp, sp_room}
+use Rattle.wasm_frames.proofs.FewerOperands.{own_operands, with_sp, sp_room}
 
 -- behind the instruction
 abbrev pub passed : Active → Bor (List Instr) → Active

@@ -1,6 +1,5 @@
 pub mod WithFloats
-pub mod SameTypes
-pub mod Differing
+pub mod DifferingNames
 pub mod Bodies
 pub mod Entry
 pub mod Imported

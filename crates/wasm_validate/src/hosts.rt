@@ -3,10 +3,10 @@
 ghost use Rattle.std.specs.Prelude.{◌≡◌, ◌<◌, bytes_eq, not, length, position, IfSome};
 ghost use Rattle.std.specs.Option.{option_copied};
 ghost use Rattle.wasm_ast.specs.declared.imports.Import.{Import};
-ghost use Rattle.wasm_ast.specs.Hosts.{host_named, host_type, same_val_types, same_type, agrees, is_host};
+ghost use Rattle.wasm_ast.specs.Hosts.{host_named, host_type, same_type, agrees, is_host};
 ghost use Rattle.wasm_ast.specs.Validity.{import_place};
 
-use wasm_ast::{FuncType, HostName, Import, Module, ValType};
+use wasm_ast::{FuncType, HostName, Import, Module, ValType, same_types};
 use wasm_typing::imported_type_of;
 
 /// The host call of this name.
@@ -42,13 +42,6 @@ pub fn host_call(name: &[u8]) -> Option<HostName>
         return Some(HostName::Release);
     }
     None
-}
-
-/// Whether the lists of types are the same.
-fn same_types(types: &[ValType], others: &[ValType]) -> bool
-    ensures { result ≡ same_val_types types.now others.now }
-{
-    types == others
 }
 
 /// Whether the function has this type.

@@ -2,7 +2,7 @@ use Rattle.std.proofs.Common.{◌≡◌, ℕ, Some, None, Result, subst, rules, 
 use Rattle.std.specs.Prelude.{MatchResult}
 use Rattle.std.proofs.lemmas.Fn.{always_returns_same}
 use Rattle.label_lattice.specs.Order.{place_of}
-use Rattle.label_lattice.proofs.Halves.{compared, searched}
+use Rattle.label_lattice.proofs.BinarySearch.{compared, searched}
 use Rattle.label_lattice.proofs.ascending.number_among.Goals as goal
 
 pub returns-in-Ok-clause-place : goal.returns-in-Ok-clause-place

@@ -1,7 +1,7 @@
 use Rattle.std.proofs.Common.{ℕ, ◌<◌, List, length, take, get_or, sym, subst, arith}
 use Rattle.std.proofs.lemmas.List.{get_or_default, take_more}
 use Rattle.label_lattice.specs.Rows.{ArePairs, IsClosure}
-use Rattle.label_lattice.proofs.Joining.{IsClosure-more}
+use Rattle.label_lattice.proofs.NamePairs.{IsClosure-more}
 use Rattle.label_lattice.proofs.lattice.closure.Goals as goal
 
 -- the ends of the pair at a place

@@ -5,8 +5,8 @@ use Rattle.std.proofs.lemmas.List.{get_or_default}
 use Rattle.label_lattice.specs.declared.error.LatticeError.TheVariants.{UnknownLabel}
 use Rattle.label_lattice.specs.Order.{place_of}
 use Rattle.label_lattice.specs.Reach.{ends_of}
-use Rattle.label_lattice.proofs.Joining.{ends_found, no_start, no_end, numbered_more}
-use Rattle.label_lattice.proofs.Firsts.{position_here, position_none}
+use Rattle.label_lattice.proofs.NamePairs.{ends_found, no_start, no_end, numbered_more}
+use Rattle.label_lattice.proofs.FirstPositions.{position_here, position_none}
 use Rattle.label_lattice.proofs.lattice.pairs_numbered.Goals as goal
 
 pub returns-in_default-clause-fault : goal.returns-in_default-clause-fault

@@ -1,4 +1,4 @@
-use Rattle.label_lattice.proofs.Reaches.{exact_test}
+use Rattle.label_lattice.proofs.Paths.{exact_test}
 use Rattle.label_lattice.proofs.laws.law_of_flows.Goals as goal
 
 pub returns : goal.returns

@@ -1,5 +1,5 @@
 use Rattle.std.proofs.Common.{None}
-use Rattle.label_lattice.proofs.Orders.{found_order}
+use Rattle.label_lattice.proofs.OrderFaults.{found_order}
 use Rattle.label_lattice.proofs.search.check.Goals as goal
 
 pub returns-in-Some-no_join_of-2 : goal.returns-in-Some-no_join_of-2

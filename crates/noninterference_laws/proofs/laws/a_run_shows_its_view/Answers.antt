@@ -1,4 +1,4 @@
-use Rattle.noninterference_laws.proofs.Alike.{views_shown, visible_shown}
+use Rattle.noninterference_laws.proofs.AlikeRuns.{views_shown, visible_shown}
 use Rattle.noninterference_laws.proofs.laws.a_run_shows_its_view.Goals as goal
 
 pub returns-clause-gated : goal.returns-clause-gated

@@ -1,4 +1,4 @@
-use Rattle.noninterference_laws.proofs.Lesser.{seen_again, of_the_other}
+use Rattle.noninterference_laws.proofs.LesserViews.{seen_again, of_the_other}
 use Rattle.noninterference_laws.proofs.laws.a_view_is_seen_whole.Goals as goal
 
 pub returns-clause-again : goal.returns-clause-again

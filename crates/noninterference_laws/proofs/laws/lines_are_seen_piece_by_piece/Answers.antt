@@ -1,4 +1,4 @@
-use Rattle.noninterference_laws.proofs.Lesser.{by_pieces}
+use Rattle.noninterference_laws.proofs.LesserViews.{by_pieces}
 use Rattle.noninterference_laws.proofs.laws.lines_are_seen_piece_by_piece.Goals as goal
 
 pub returns : goal.returns

@@ -11,7 +11,7 @@ use Rattle.policy_toml.specs.Clients.{clients_of}
 use Rattle.policy_toml.specs.Gates.{gates_of}
 use Rattle.trapeze_io.specs.Names.{Ascend}
 use Rattle.policy_toml.specs.PolicyOf.{limits_by_label}
-use Rattle.policy_toml.proofs.Whole.{is_policy, accepted, parts_same}
+use Rattle.policy_toml.proofs.WholePolicy.{is_policy, accepted, parts_same}
 use Rattle.policy_toml.proofs.read.read_table.Goals as goal
 
 pub all_limits-requires : goal.all_limits-requires

@@ -13,7 +13,7 @@ use Rattle.shim_calls.specs.declared.effect.Performed.{Performed}
 use Rattle.shim_calls.specs.declared.wish.Wish.TheVariants as asks
 use Rattle.shim_calls.specs.Performing.{Performs}
 use Rattle.shim_calls.specs.Wished.{shown, Carries}
-use Rattle.shim_calls.proofs.Shown.{means}
+use Rattle.shim_calls.proofs.ShownWishes.{means}
 use Rattle.shim_calls.proofs.Granting.{sent_on, replied, released_on, vanished}
 use Rattle.shim_calls.proofs.performing.grant.Goals as goal
 

@@ -6,7 +6,7 @@ use Rattle.host_rules.specs.Modules.{guest_of}
 use Rattle.host_rules.specs.Wishes.{wish}
 use Rattle.host_rules.specs.Calls.{after_wish, granted}
 use Rattle.shim_calls.specs.Performing.{asked_in, Performs}
-use Rattle.shim_calls.proofs.Shown.{was_read}
+use Rattle.shim_calls.proofs.ShownWishes.{was_read}
 use Rattle.shim_calls.proofs.performing.perform.Goals as goal
 
 pub returns-clause-performed : goal.returns-clause-performed

@@ -1,7 +1,7 @@
 use Rattle.std.proofs.Common.{length, ap, sym, ◌∙◌}
 use Rattle.label_lattice.specs.Order.{Order, count}
 use Rattle.gate_rules.specs.Gates.{gate_of, passed}
-use Rattle.shim_calls.proofs.Fit.{gate_is_fit}
+use Rattle.shim_calls.proofs.NamesWithinCounts.{gate_is_fit}
 use Rattle.shim_calls.proofs.wishes.released.Goals as goal
 
 pub returns-in-Ok-Pass-clause-fit : goal.returns-in-Ok-Pass-clause-fit

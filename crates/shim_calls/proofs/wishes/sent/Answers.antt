@@ -3,7 +3,7 @@ use Rattle.label_lattice.specs.Order.{Order, count}
 use Rattle.labelled_channel.specs.Delivering.{channel_of, delivered, AreUnderNames}
 use Rattle.host_rules.specs.Policies.{rules_of}
 use Rattle.shim_calls.specs.Performing.{IsFitMessage}
-use Rattle.shim_calls.proofs.Fit.{unnamed, channel_is_fit}
+use Rattle.shim_calls.proofs.NamesWithinCounts.{unnamed, channel_is_fit}
 use Rattle.shim_calls.proofs.wishes.sent.Goals as goal
 use Rattle.shim_calls.proofs.wishes.sent.Goals.{in-Start, in-Vanishes}
 

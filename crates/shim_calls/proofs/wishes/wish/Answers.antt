@@ -5,7 +5,7 @@ use Rattle.host_rules.specs.Policies.{rules_of}
 use Rattle.host_rules.specs.Wishes.{wish}
 use Rattle.shim_calls.specs.Performing.{asked_in}
 use Rattle.shim_calls.specs.Wished.{fault_of, wished, raises}
-use Rattle.shim_calls.proofs.Raised.{raise_is}
+use Rattle.shim_calls.proofs.Raises.{raise_is}
 use Rattle.shim_calls.proofs.wishes.wish.Goals as goal
 
 pub returns-in_ok-name-in-Raise-clause-wish : goal.returns-in_ok-name-in-Raise-clause-wish

@@ -2,8 +2,8 @@ use Rattle.std.proofs.Common.{subst, inr, [], ◌∷◌, map, string_bytes, arit
 use Rattle.trapeze_io.specs.Seen.{OpensOne}
 use Rattle.trapeze_cli.specs.Forms.{command_of}
 use Rattle.trapeze_cli.specs.Said.{said}
-use Rattle.trapeze_cli.proofs.Words.{one_opened, outcome_read, outcome_unread, opened_read, opened_unread, reached_read, reached_unread, events_read, counted_unread, fails, files_read, not_write, fails_unread, last_is}
-use Rattle.trapeze_cli.proofs.Under.{counted_later, failed_map}
+use Rattle.trapeze_cli.proofs.PolicyToWords.{one_opened, outcome_read, outcome_unread, opened_read, opened_unread, reached_read, reached_unread, events_read, counted_unread, fails, files_read, not_write, fails_unread, last_is}
+use Rattle.trapeze_cli.proofs.UnderPolicy.{counted_later, failed_map}
 use Rattle.trapeze_cli.proofs.Complete.{completes, names_read, says_named, says_unread, unknown_answered, unknown_given}
 use Rattle.trapeze_cli.proofs.Exercises.{of_exercise, of_files, exercise_opened, exercise_read, exercise_outcome, exercise_ends, exercise_write, exercise_unread, exercise_usage, exercise_past, exercise_memory, exercise_said}
 use Rattle.trapeze_cli.proofs.command.trapeze.Goals as goal

@@ -14,7 +14,7 @@ use Rattle.trapeze_cli.specs.Whys.{why}
 use Rattle.trapeze_cli.proofs.Refusals.{IfSome-map, IfSome-all}
 use Rattle.trapeze_cli.proofs.Tasks.{one_task_under}
 use Rattle.trapeze_cli.proofs.Outcomes.{refused_as, outcome_refused, outcome_said, outcome_played}
-use Rattle.trapeze_cli.proofs.Under.{usage_only, shown_told, unshown_task, unread_task, check_task, play_task, reached_events, counted_later, opens_policy, opens_modules, opens_check, said_ends, opens_play, no_events, no_usage, reads_all, read_events, file_later}
+use Rattle.trapeze_cli.proofs.UnderPolicy.{usage_only, shown_told, unshown_task, unread_task, check_task, play_task, reached_events, counted_later, opens_policy, opens_modules, opens_check, said_ends, opens_play, no_events, no_usage, reads_all, read_events, file_later}
 use Rattle.trapeze_cli.proofs.command.under_policy.Goals as goal
 
 pub returns-in-Err-clause-outcome : goal.returns-in-Err-clause-outcome

@@ -1,6 +1,6 @@
 use Rattle.trapeze_host.specs.Standing.{policy_lent, modules_lent, Stands}
 use Rattle.trapeze_cli.proofs.Playing.{err_is, plays_nothing}
-use Rattle.trapeze_cli.proofs.Telling.{event_played, all_labelled}
+use Rattle.trapeze_cli.proofs.ToldLines.{event_played, all_labelled}
 use Rattle.trapeze_cli.proofs.play.play_event.Goals as goal
 
 pub returns-in_err-play-clause-plays : goal.returns-in_err-play-clause-plays

@@ -1,5 +1,5 @@
 use Rattle.trapeze_cli.proofs.Playing.{err_is}
-use Rattle.trapeze_cli.proofs.Telling.{told_all, told_less}
+use Rattle.trapeze_cli.proofs.ToldLines.{told_all, told_less}
 use Rattle.trapeze_cli.proofs.play.write_lines.Goals as goal
 
 pub returns-in_err-write_whole-clause-lines : goal.returns-in_err-write_whole-clause-lines

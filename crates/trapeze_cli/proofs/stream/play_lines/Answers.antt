@@ -1,8 +1,8 @@
 use Rattle.std.proofs.Common.{◌++◌, ◌∷◌, [], ap, ◌∙◌, arith, refl}
 use Rattle.event_file.specs.Reader.{Reader}
 use Rattle.trapeze_cli.proofs.Playing.{err_is, plays_none, plays_halt, plays_no_more, plays_all}
-use Rattle.trapeze_cli.proofs.Passing.{passes_none, passes_entry, passes_dry, passes_waiting, passes_bad, plays_entry, stays_of}
-use Rattle.trapeze_cli.proofs.Pacing.{paced_entry, few_turns}
+use Rattle.trapeze_cli.proofs.PassedLines.{passes_none, passes_entry, passes_dry, passes_waiting, passes_bad, plays_entry, stays_of}
+use Rattle.trapeze_cli.proofs.PacedReading.{paced_entry, few_turns}
 use Rattle.trapeze_cli.proofs.Shrinking.{shrinks_dry, shrinks_bad, paced_later}
 use Rattle.trapeze_cli.proofs.stream.play_lines.Goals as goal
 

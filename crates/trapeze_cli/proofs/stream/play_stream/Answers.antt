@@ -7,9 +7,9 @@ use Rattle.trapeze_host.specs.Standing.{modules_lent, known_in}
 use Rattle.trapeze_cli.specs.Played.{events_of}
 use Rattle.trapeze_cli.specs.Runs.{setting_of}
 use Rattle.trapeze_cli.proofs.Playing.{plays_none, state_after}
-use Rattle.trapeze_cli.proofs.Passing.{plays_lines}
-use Rattle.trapeze_cli.proofs.Pacing.{paced_fed, paced_new, reader_new, numbered_clients, numbered_functions}
-use Rattle.trapeze_cli.proofs.Following.{follows_new, dry_new, follows_fed, follows_passed}
+use Rattle.trapeze_cli.proofs.PassedLines.{plays_lines}
+use Rattle.trapeze_cli.proofs.PacedReading.{paced_fed, paced_new, reader_new, numbered_clients, numbered_functions}
+use Rattle.trapeze_cli.proofs.FollowedFile.{follows_new, dry_new, follows_fed, follows_passed}
 use Rattle.trapeze_cli.proofs.Streaming.{told, told_end, answers_fault, answers_end, answers_past, answers_want, answers_piece, room_long, piece_long, piece_given}
 use Rattle.trapeze_cli.proofs.stream.play_stream.Goals as goal
 

@@ -1,4 +1,4 @@
-use Rattle.trapeze_exercise.proofs.Fits.{answer_fits}
+use Rattle.trapeze_exercise.proofs.PlayableEvents.{answer_fits}
 use Rattle.trapeze_exercise.proofs.events.generate.Goals as goal
 
 pub returns-clause-fit : goal.returns-clause-fit

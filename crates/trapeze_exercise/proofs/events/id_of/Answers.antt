@@ -1,6 +1,6 @@
 use Rattle.std.proofs.Common.{IsTrue, sym, subst, ◌∙◌}
 use Rattle.trapeze_io.specs.Names.{is_name}
-use Rattle.trapeze_exercise.proofs.Words.{id_is_name}
+use Rattle.trapeze_exercise.proofs.IdsAreNames.{id_is_name}
 use Rattle.trapeze_exercise.proofs.events.id_of.Goals as goal
 
 pub unreachable-requires : goal.unreachable-requires

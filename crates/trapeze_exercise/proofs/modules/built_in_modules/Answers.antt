@@ -3,8 +3,8 @@ use Rattle.wasm_ast.specs.declared.modules.Module.{Module}
 use Rattle.wasm_ast.specs.TestModules.{echo, lift, look, spin, store, twin}
 use Rattle.wasm_ast.proofs.Worked.{echo_valid}
 use Rattle.wasm_semantics.proofs.Spin.{spin_valid}
-use Rattle.trapeze_exercise.proofs.Typed.{lift_valid, look_valid, store_valid, twin_valid}
-use Rattle.trapeze_exercise.proofs.Read.{echo_spelled, lift_spelled, look_spelled, spin_spelled, store_spelled, twin_spelled}
+use Rattle.trapeze_exercise.proofs.ValidModules.{lift_valid, look_valid, store_valid, twin_valid}
+use Rattle.trapeze_exercise.proofs.ReadModules.{echo_spelled, lift_spelled, look_spelled, spin_spelled, store_spelled, twin_spelled}
 use Rattle.trapeze_exercise.proofs.modules.built_in_modules.Goals as goal
 
 pub add-requires-clause-spelled : goal.add-requires-clause-spelled

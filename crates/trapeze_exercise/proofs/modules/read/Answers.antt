@@ -1,6 +1,6 @@
 use Rattle.std.proofs.Common.{subst, ◌≡◌, IfOk}
 use Rattle.wasm_ast.specs.Validity.{Valid}
-use Rattle.wasm_decode.proofs.Whole.{module_one}
+use Rattle.wasm_decode.proofs.ModulesBothWays.{module_one}
 use Rattle.trapeze_exercise.proofs.modules.read.Goals as goal
 
 pub accept-requires-clause-valid : goal.accept-requires-clause-valid

@@ -3,7 +3,7 @@ use Rattle.std.specs.Prelude.{suc}
 use Rattle.wasm_semantics.specs.Operators.{truth}
 use Rattle.wasm_data.specs.Cuts.{under}
 use Rattle.wasm_data.specs.Marked.{operands_in}
-use Rattle.wasm_blocks.proofs.Goings.{branch_room, branch_runs, branch_placed}
+use Rattle.wasm_blocks.proofs.BlocksOnStacks.{branch_room, branch_runs, branch_placed}
 use Rattle.wasm_blocks.proofs.blocks.branch_to.Goals as goal
 
 pub overflow_add-hot : goal.overflow_add-hot

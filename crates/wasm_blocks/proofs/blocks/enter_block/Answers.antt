@@ -1,7 +1,7 @@
 use Rattle.std.proofs.Common.{◌-◌, refl}
 use Rattle.std.specs.Prelude.{length}
 use Rattle.wasm_blocks.specs.declared.open.Open.{Open}
-use Rattle.wasm_blocks.proofs.Goings.{enter_runs, enter_placed}
+use Rattle.wasm_blocks.proofs.BlocksOnStacks.{enter_runs, enter_placed}
 use Rattle.wasm_blocks.proofs.blocks.enter_block.Goals as goal
 
 pub returns-clause-goes : goal.returns-clause-goes

@@ -1,4 +1,4 @@
-use Rattle.wasm_blocks.proofs.Goings.{leave_runs, leave_placed}
+use Rattle.wasm_blocks.proofs.BlocksOnStacks.{leave_runs, leave_placed}
 use Rattle.wasm_blocks.proofs.blocks.leave_block.Goals as goal
 
 pub returns-clause-goes : goal.returns-clause-goes

@@ -3,7 +3,7 @@ use Rattle.std.specs.Prelude.{replicate, vec_len}
 use Rattle.std.proofs.lemmas.Result.{err_from_is_err_and}
 use Rattle.wasm_code.specs.Answers.{place}
 use Rattle.wasm_code.specs.Reading.{locals}
-use Rattle.wasm_code.proofs.Declared.{begins, goes_on, stops_at_count, stops_at_type, too_many, is_done, resized}
+use Rattle.wasm_code.proofs.LocalGroups.{begins, goes_on, stops_at_count, stops_at_type, too_many, is_done, resized}
 use Rattle.wasm_code.proofs.bodies.locals.Goals as goal
 
 pub groups-init : goal.groups-init

@@ -1,6 +1,6 @@
 use Rattle.wasm_code.specs.Answers.{place}
 use Rattle.wasm_code.specs.Reading.{locals}
-use Rattle.wasm_code.proofs.Declared.{Declares}
+use Rattle.wasm_code.proofs.LocalGroups.{Declares}
 use Rattle.wasm_code.proofs.bodies.locals.Given as goal
 
 abbrev pub invariant-groups : goal.invariant-groups

@@ -1,8 +1,8 @@
 use Rattle.wasm_code.specs.Grammar.{Expr, IsBody}
 use Rattle.wasm_code.specs.Reading.{expr, body}
-use Rattle.wasm_code.proofs.Moved.{agree}
-use Rattle.wasm_code.proofs.Moving.{expr_goes, body_goes}
-use Rattle.wasm_code.proofs.Bodied.{expr_reads, body_reads}
+use Rattle.wasm_code.proofs.Extents.{agree}
+use Rattle.wasm_code.proofs.BodyExtents.{expr_goes, body_goes}
+use Rattle.wasm_code.proofs.BodiesBothWays.{expr_reads, body_reads}
 use Rattle.wasm_code.proofs.laws.reads_what_is_spelled.Goals as goal
 
 pub returns-clause-expressions : goal.returns-clause-expressions

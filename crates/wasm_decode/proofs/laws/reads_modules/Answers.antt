@@ -8,7 +8,7 @@ use Rattle.wasm_code.specs.Reading.{block_type, step, steps, locals, body}
 use Rattle.wasm_decode.specs.Parts.{func_type, limits, memory_type, table, global_type, import_kind, import, global, export, number, element, piece, pieces, bodies, code}
 use Rattle.wasm_decode.specs.Sections.{after_id, customs, section, sections, module_of}
 use Rattle.wasm_decode.specs.Examples.{built_bytes, fill_bytes}
-use Rattle.wasm_decode.proofs.Whole.{module_sound}
+use Rattle.wasm_decode.proofs.ModulesBothWays.{module_sound}
 use Rattle.wasm_decode.proofs.laws.reads_modules.Goals as goal
 
 pub returns-clause-endless : goal.returns-clause-endless

@@ -1,4 +1,4 @@
-use Rattle.wasm_decode.proofs.Whole.{module_sound, module_complete}
+use Rattle.wasm_decode.proofs.ModulesBothWays.{module_sound, module_complete}
 use Rattle.wasm_decode.proofs.laws.reads_what_is_spelled.Goals as goal
 
 pub returns-clause-sound : goal.returns-clause-sound

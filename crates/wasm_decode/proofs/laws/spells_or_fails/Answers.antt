@@ -1,5 +1,5 @@
-use Rattle.wasm_decode.proofs.Whole.{module_either, module_one, one_fault, module_or_fault}
-use Rattle.wasm_decode.proofs.Moving.{module_faults}
+use Rattle.wasm_decode.proofs.ModulesBothWays.{module_either, module_one, one_fault, module_or_fault}
+use Rattle.wasm_decode.proofs.SectionExtents.{module_faults}
 use Rattle.wasm_decode.proofs.laws.spells_or_fails.Goals as goal
 
 pub returns-clause-either : goal.returns-clause-either

@@ -1,7 +1,7 @@
 use Rattle.std.proofs.lemmas.Result.{err_from_is_err_and}
 use Rattle.wasm_code.specs.Answers.{place}
 use Rattle.wasm_decode.specs.Parts.{bodies}
-use Rattle.wasm_decode.proofs.Numbered.{begins, goes_on, stops_at_size, stops_at_body, is_done}
+use Rattle.wasm_decode.proofs.NumberedBodies.{begins, goes_on, stops_at_size, stops_at_body, is_done}
 use Rattle.wasm_decode.proofs.sections.bodies.Goals as goal
 
 pub bodies-init : goal.bodies-init

@@ -1,6 +1,6 @@
 use Rattle.wasm_code.specs.Answers.{place}
 use Rattle.wasm_decode.specs.Parts.{bodies}
-use Rattle.wasm_decode.proofs.Numbered.{SoFar}
+use Rattle.wasm_decode.proofs.NumberedBodies.{SoFar}
 use Rattle.wasm_decode.proofs.sections.bodies.Given as goal
 
 abbrev pub invariant-bodies : goal.invariant-bodies

@@ -1,6 +1,6 @@
 use Rattle.std.proofs.Common.{rules}
 use Rattle.wasm_code.specs.Answers.{place}
-use Rattle.wasm_decode.proofs.Few.{few_bodies}
+use Rattle.wasm_decode.proofs.MemberCounts.{few_bodies}
 use Rattle.wasm_decode.proofs.sections.code.Goals as goal
 
 pub returns-clause-few : goal.returns-clause-few

@@ -1,9 +1,9 @@
 use Rattle.std.proofs.Common.{◌∙◌, sym, subst, arith}
 use Rattle.std.proofs.lemmas.Result.{err_from_is_err_and}
 use Rattle.wasm_code.specs.Answers.{place, Stops}
-use Rattle.wasm_code.proofs.Fielded.{range_sound}
-use Rattle.wasm_decode.proofs.Whole.{after_shorter}
-use Rattle.wasm_decode.proofs.Passing.{passes, bad_range, bad_name, stops}
+use Rattle.wasm_code.proofs.FieldsBothWays.{range_sound}
+use Rattle.wasm_decode.proofs.ModulesBothWays.{after_shorter}
+use Rattle.wasm_decode.proofs.CustomSections.{passes, bad_range, bad_name, stops}
 use Rattle.wasm_decode.proofs.sections.customs.Goals as goal
 
 pub returns-in_err-range : goal.returns-in_err-range

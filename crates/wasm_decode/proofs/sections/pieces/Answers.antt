@@ -1,7 +1,7 @@
 use Rattle.std.proofs.Common.{rules}
 use Rattle.wasm_code.specs.Answers.{place}
 use Rattle.wasm_decode.specs.Parts.{piece}
-use Rattle.wasm_decode.proofs.Few.{few_times}
+use Rattle.wasm_decode.proofs.MemberCounts.{few_times}
 use Rattle.wasm_decode.proofs.sections.pieces.Goals as goal
 
 pub returns-clause-few : goal.returns-clause-few

@@ -1,6 +1,6 @@
 use Rattle.std.proofs.Common.{sym, ap, arith}
 use Rattle.wasm_semantics.specs.Laws.{in_four_places}
-use Rattle.wasm_exec.proofs.Words.{two_words, two_fit}
+use Rattle.wasm_exec.proofs.ValuesInTurn.{two_words, two_fit}
 use Rattle.wasm_exec.proofs.asking.two_from.Goals as goal
 
 pub overflow_cast-result : goal.overflow_cast-result

@@ -3,7 +3,7 @@ use Rattle.std.specs.Prelude.{Some, slice_get}
 use Rattle.wasm_data.specs.Cuts.{above, under}
 use Rattle.wasm_blocks.specs.Rest.{code_in}
 use Rattle.wasm_frames.specs.Resting.{body_of}
-use Rattle.wasm_exec.proofs.Finds.{none_between, one_between, none_laid, one_laid, one_inside}
+use Rattle.wasm_exec.proofs.FoundCode.{none_between, one_between, none_laid, one_laid, one_inside}
 use Rattle.wasm_exec.proofs.codes.find_code.Goals as goal
 
 pub heights-init : goal.heights-init

@@ -1,5 +1,5 @@
 use Rattle.std.proofs.Common.{sym}
-use Rattle.wasm_exec.proofs.Wakes.{none_left, below_low, warms}
+use Rattle.wasm_exec.proofs.WokenFrames.{none_left, below_low, warms}
 use Rattle.wasm_exec.proofs.resting.warm.Goals as goal
 
 pub find_rest-requires-clause-order : goal.find_rest-requires-clause-order

@@ -10,7 +10,7 @@ use Rattle.wasm_frames.specs.Standing.{held, spot_at}
 use Rattle.wasm_frames.specs.Callees.{IsRun}
 use Rattle.wasm_frames.specs.Resting.{code_of}
 use Rattle.wasm_frames.specs.Turns.{HasAsked}
-use Rattle.wasm_frames.proofs.Fewer.{sp_room}
+use Rattle.wasm_frames.proofs.FewerOperands.{sp_room}
 use Rattle.wasm_frames.proofs.Calling.{Opened, body_found, some_there, not_there, get_at, call_asks, call_goes}
 use Rattle.wasm_frames.proofs.Counts.{past_call}
 use Rattle.wasm_frames.proofs.calls.call.Goals as goal

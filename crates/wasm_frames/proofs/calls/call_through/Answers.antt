@@ -10,7 +10,7 @@ use Rattle.wasm_frames.specs.declared.callees.Runs.TheVariants as runs
 use Rattle.wasm_frames.specs.Standing.{held, spot_at}
 use Rattle.wasm_frames.specs.Turns.{Answered}
 use Rattle.wasm_frames.proofs.Calling.{some_there, not_there, get_at}
-use Rattle.wasm_frames.proofs.Through.{some_same, through_same, through_differs}
+use Rattle.wasm_frames.proofs.TableCalls.{some_same, through_same, through_differs}
 use Rattle.wasm_frames.proofs.calls.call_through.Goals as goal
 
 abbrev no_row : Callee

@@ -1,7 +1,7 @@
 use Rattle.std.proofs.Common.{◌≡◌, ◌∷◌, ◌-◌, ◌≤◌, List, length, drop, ap, ◌∙◌, arith, length-drop}
 use Rattle.wasm_data.specs.Cuts.{under}
 use Rattle.wasm_frames.specs.declared.active.Place.{Place}
-use Rattle.wasm_frames.proofs.Ends.{room_to_return, finish_goes}
+use Rattle.wasm_frames.proofs.FrameEnds.{room_to_return, finish_goes}
 use Rattle.wasm_frames.proofs.returns.finish.Goals as goal
 
 fewer : (xs ys : List Place) (y : Place) → xs ≡ y ∷ ys → length ys ≤ length xs

@@ -6,7 +6,7 @@ use Rattle.wasm_frames.specs.Standing.{held}
 use Rattle.wasm_frames.specs.Resting.{body_of}
 use Rattle.wasm_frames.specs.Turns.{Answered}
 use Rattle.wasm_frames.proofs.Lifts.{lifts}
-use Rattle.wasm_frames.proofs.Ends.{jump_returns}
+use Rattle.wasm_frames.proofs.FrameEnds.{jump_returns}
 use Rattle.wasm_frames.proofs.returns.jump.Goals as goal
 
 pub returns-then-label-len : goal.returns-then-label-len

@@ -1,4 +1,4 @@
-use Rattle.wasm_semantics.proofs.Keeps.{unit_keeps, units_keep}
+use Rattle.wasm_semantics.proofs.MemoryLengths.{unit_keeps, units_keep}
 use Rattle.wasm_semantics.proofs.laws.memory_never_shrinks.Goals as goal
 
 pub returns-clause-unit : goal.returns-clause-unit

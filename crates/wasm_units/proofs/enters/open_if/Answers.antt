@@ -13,7 +13,7 @@ use Rattle.wasm_blocks.specs.Runs.{own_nexts}
 use Rattle.wasm_frames.specs.declared.active.Active.{Active}
 use Rattle.wasm_frames.specs.Resting.{body_of}
 use Rattle.wasm_units.proofs.Takes.{pop_room}
-use Rattle.wasm_units.proofs.Popped.{popped_stands, popped_placed, popped_act}
+use Rattle.wasm_units.proofs.PoppedFrames.{popped_stands, popped_placed, popped_act}
 use Rattle.wasm_units.proofs.enters.open_if.Goals as goal
 
 pub top-value-requires-clause-some : goal.top-value-requires-clause-some

@@ -6,7 +6,7 @@ use Rattle.wasm_frames.specs.Standing.{held, spot_at}
 use Rattle.wasm_frames.specs.Turns.{CanBranch, Answered}
 use Rattle.wasm_units.proofs.Needs.{can_branch}
 use Rattle.wasm_units.proofs.Takes.{pop_room, by_table}
-use Rattle.wasm_units.proofs.Popped.{top_there, popped_stands, popped_placed, popped_act}
+use Rattle.wasm_units.proofs.PoppedFrames.{top_there, popped_stands, popped_placed, popped_act}
 use Rattle.wasm_units.proofs.jumps.jump_by.Goals as goal
 
 pub top-value-requires-clause-some : goal.top-value-requires-clause-some

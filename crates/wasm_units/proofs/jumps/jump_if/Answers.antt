@@ -7,7 +7,7 @@ use Rattle.wasm_frames.specs.Standing.{held, spot_at}
 use Rattle.wasm_frames.specs.Turns.{Answered}
 use Rattle.wasm_units.proofs.Needs.{can_branch}
 use Rattle.wasm_units.proofs.Takes.{pop_room, if_zero, if_not}
-use Rattle.wasm_units.proofs.Popped.{top_there, popped_stands, popped_placed, popped_act}
+use Rattle.wasm_units.proofs.PoppedFrames.{top_there, popped_stands, popped_placed, popped_act}
 use Rattle.wasm_units.proofs.jumps.jump_if.Goals as goal
 
 pub top-value-requires-clause-some : goal.top-value-requires-clause-some

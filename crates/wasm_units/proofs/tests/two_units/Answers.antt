@@ -1,7 +1,7 @@
 use Rattle.std.proofs.Common.{ℕ, List, [], subst, ap, arith}
 use Rattle.wasm_frames.specs.Standing.{held, store_of, thread_in}
 use Rattle.wasm_semantics.specs.OfModule.{IsOf}
-use Rattle.wasm_units.proofs.Comes.{no_code}
+use Rattle.wasm_units.proofs.UnitOutcomes.{no_code}
 use Rattle.wasm_units.proofs.Spinning.{rows_told, valid, start, code_is, started, still}
 use Rattle.wasm_units.proofs.tests.two_units.Goals as goal
 

@@ -11,9 +11,9 @@ use Rattle.wasm_frames.specs.declared.turns.Turn.{Turn}
 use Rattle.wasm_frames.specs.Standing.{held, store_of, spot_at}
 use Rattle.wasm_frames.specs.Turns.{Answered}
 use Rattle.wasm_units.proofs.Takes.{passed, passed_stands, takes, ends, pop_room, by_indirect}
-use Rattle.wasm_units.proofs.Popped.{popped_stands, popped_placed, popped_act}
+use Rattle.wasm_units.proofs.PoppedFrames.{popped_stands, popped_placed, popped_act}
 use Rattle.wasm_units.proofs.Needs.{finish_there, can_branch, call_there, call_takes, types_there, kind_there}
-use Rattle.wasm_units.proofs.Comes.{no_code, ends_can_return}
+use Rattle.wasm_units.proofs.UnitOutcomes.{no_code, ends_can_return}
 use Rattle.wasm_units.proofs.DataKinds.{is_data, no_rule}
 use Rattle.wasm_units.proofs.Fronts.{front, ruled, can_act, placed_behind, acted_here, acted, has_top}
 use Rattle.wasm_units.proofs.Moving.{moves_typed, moves_fit, data_answered}

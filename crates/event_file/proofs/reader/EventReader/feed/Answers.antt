@@ -2,7 +2,7 @@ use Rattle.std.proofs.Common.{◌≡◌, ◌≤◌, ℕ, ◌++◌, List, length,
 use Rattle.std.specs.List.{position_or_len}
 use Rattle.std.proofs.lemmas.List.{drop-append-le}
 use Rattle.event_file.specs.Reader.{Reader}
-use Rattle.event_file.proofs.Split.{farther}
+use Rattle.event_file.proofs.SplitLists.{farther}
 use Rattle.event_file.proofs.Continuing.{is_end}
 use Rattle.event_file.proofs.reader.EventReader.feed.Goals as goal
 use Rattle.event_file.proofs.reader.EventReader.feed.Goals.{then-self-len, else-self-len}

@@ -1,7 +1,7 @@
 use Rattle.std.proofs.Common.{◌≡◌, ℕ, ◌+◌, ◌<◌, List, ◌∷◌, length, take, drop, sym, ap, subst, arith, length-drop}
 use Rattle.event_file.specs.Lines.{lines_of}
 use Rattle.event_file.specs.Reader.{Reader, IsOneLine}
-use Rattle.event_file.proofs.Split.{found_next, missing_next}
+use Rattle.event_file.proofs.SplitLists.{found_next, missing_next}
 use Rattle.trapeze_io.proofs.Splits.{first_part, whole}
 use Rattle.event_file.proofs.reader.EventReader.line_end.Goals as goal
 

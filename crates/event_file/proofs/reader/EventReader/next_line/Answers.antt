@@ -4,8 +4,8 @@ use Rattle.event_file.specs.Calls.{Advances}
 use Rattle.event_file.specs.declared.next.Next.TheVariants as next
 use Rattle.event_file.specs.declared.fault.LineFault.TheVariants.{LineTooLong}
 use Rattle.event_file.proofs.Continuing.{continues, skips_with}
-use Rattle.event_file.proofs.Hearing.{hears, skips_heard}
-use Rattle.event_file.proofs.Due.{is_due}
+use Rattle.event_file.proofs.HeardLines.{hears, skips_heard}
+use Rattle.event_file.proofs.DueAnswers.{is_due}
 use Rattle.event_file.proofs.Advancing.{skips_more, skips_same, first_same, one_line_same, within_same, answered, at_first, advances_entry, advances_bad, advances_long, advances_none, advances_waiting, short_one}
 use Rattle.event_file.proofs.reader.EventReader.next_line.Goals as goal
 

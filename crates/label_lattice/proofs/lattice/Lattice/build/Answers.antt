@@ -3,9 +3,9 @@ use Rattle.std.proofs.lemmas.Result.{err_from_is_err_and}
 use Rattle.label_lattice.specs.Rows.{ArePairs, IsClosed, row_flows}
 use Rattle.label_lattice.specs.Reach.{pairs_numbered}
 use Rattle.label_lattice.specs.Faults.{end_fault, order_fault}
-use Rattle.label_lattice.proofs.Whole.{some_names}
-use Rattle.label_lattice.proofs.Joining.{numbered_pairs, IsClosed-closure}
-use Rattle.label_lattice.proofs.Built.{fault_of_ends, fault_of_order, sound, closure_same}
+use Rattle.label_lattice.proofs.WhenALattice.{some_names}
+use Rattle.label_lattice.proofs.NamePairs.{numbered_pairs, IsClosed-closure}
+use Rattle.label_lattice.proofs.FaultsByStage.{fault_of_ends, fault_of_order, sound, closure_same}
 use Rattle.label_lattice.proofs.lattice.Lattice.build.Goals as goal
 
 pub returns-in_err-pairs-clause-fault : goal.returns-in_err-pairs-clause-fault

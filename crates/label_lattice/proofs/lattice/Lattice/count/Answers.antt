@@ -1,7 +1,7 @@
 use Rattle.std.proofs.Common.{subst}
 use Rattle.label_lattice.specs.Order.{Order}
 use Rattle.label_lattice.specs.Sound.{HasTop}
-use Rattle.label_lattice.proofs.Tops.{top}
+use Rattle.label_lattice.proofs.LatticeTops.{top}
 use Rattle.label_lattice.proofs.lattice.Lattice.count.Goals as goal
 
 pub returns-clause-top : goal.returns-clause-top

@@ -1,7 +1,7 @@
 use Rattle.std.proofs.Common.{◌∙◌, ap, length}
 use Rattle.label_lattice.specs.Order.{Order}
 use Rattle.label_lattice.specs.Reach.{flows}
-use Rattle.label_lattice.proofs.Joining.{flows_closes}
+use Rattle.label_lattice.proofs.NamePairs.{flows_closes}
 use Rattle.label_lattice.proofs.lattice.Lattice.flows.Goals as goal
 
 pub returns : goal.returns

@@ -4,9 +4,9 @@ use Rattle.label_lattice.specs.Order.{Order, count}
 use Rattle.label_lattice.specs.Reach.{closes, flows}
 use Rattle.label_lattice.specs.Rows.{IsClosed}
 use Rattle.label_lattice.specs.Joins.{join, IsJoin}
-use Rattle.label_lattice.proofs.Built.{same_flows}
-use Rattle.label_lattice.proofs.Joining.{IsClosed-closure}
-use Rattle.label_lattice.proofs.Joined.{join_there, join_found, search_same}
+use Rattle.label_lattice.proofs.FaultsByStage.{same_flows}
+use Rattle.label_lattice.proofs.NamePairs.{IsClosed-closure}
+use Rattle.label_lattice.proofs.FoundJoins.{join_there, join_found, search_same}
 use Rattle.label_lattice.proofs.lattice.Lattice.join.Goals as goal
 
 pub join-requires-clause-closed : goal.join-requires-clause-closed

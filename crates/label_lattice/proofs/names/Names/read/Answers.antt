@@ -7,7 +7,7 @@ use Rattle.trapeze_io.specs.Names.{is_name}
 use Rattle.trapeze_io.specs.contracts.names.NamePartialEq.TheImpl.{eq-value}
 use Rattle.label_lattice.specs.Faults.{is_repeated, name_fault}
 use Rattle.label_lattice.specs.Sound.{AreNames}
-use Rattle.label_lattice.proofs.Naming.{AreNames-faultless, first_next, first_here, first_end, bad_fault, repeated_fault, no_fault, repeated_in, not_false, not_true, added_name}
+use Rattle.label_lattice.proofs.NameFaults.{AreNames-faultless, first_next, first_here, first_end, bad_fault, repeated_fault, no_fault, repeated_in, not_false, not_true, added_name}
 use Rattle.label_lattice.proofs.names.Names.read.Goals as goal
 
 pub returns-in_default-clause-fault : goal.returns-in_default-clause-fault

@@ -2,7 +2,7 @@ use Rattle.std.proofs.Common.{◌∙◌, ℕ, List, ap, sym, arith, subst, find}
 use Rattle.label_lattice.specs.Rows.{IsClosed, row_flows}
 use Rattle.label_lattice.specs.Joins.{labels, is_join}
 use Rattle.label_lattice.proofs.Ranges.{labels_from_zero, find_here, find_next, find_end}
-use Rattle.label_lattice.proofs.Least.{is_join_here, is_join_elsewhere}
+use Rattle.label_lattice.proofs.JoinsByBits.{is_join_here, is_join_elsewhere}
 use Rattle.label_lattice.proofs.table.Table.join.Goals as goal
 
 pub labels-init : goal.labels-init

@@ -1,6 +1,6 @@
 use Rattle.wasm_semantics.specs.Units.{units}
 use Rattle.sandbox.specs.Threads.{thread_of, IsReady}
-use Rattle.sandbox.proofs.Ends.{spent, done, trapped, asks, none}
+use Rattle.sandbox.proofs.RunEnds.{spent, done, trapped, asks, none}
 use Rattle.sandbox.proofs.sandboxes.Sandbox.go.Goals as goal
 use Rattle.sandbox.proofs.sandboxes.Sandbox.go.Goals.{in-Spent, in-Done, in-Trapped, in-Call, in-NoMemory}
 

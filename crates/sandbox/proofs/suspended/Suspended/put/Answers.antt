@@ -3,7 +3,7 @@ use Rattle.wasm_ast.specs.Memory.{memory_write}
 use Rattle.wasm_semantics.specs.Units.{with_memory}
 use Rattle.wasm_exec.specs.Machines as machines
 use Rattle.sandbox.specs.Threads.{waiting, IsWaiting, memory_of, asked_of}
-use Rattle.sandbox.proofs.Written.{bytes_after}
+use Rattle.sandbox.proofs.WrittenMemory.{bytes_after}
 use Rattle.sandbox.proofs.suspended.Suspended.put.Goals as goal
 
 pub returns-clause-answer : goal.returns-clause-answer
