@@ -11,7 +11,7 @@ use Rattle.label_limits.specs.declared.limits.Limits.{Limits}
 use Rattle.label_limits.specs.declared.meter.Count.{Count}
 use Rattle.label_limits.specs.Counting.{Metered, nothing, count_of, charged, has_room, fits, IsCounted}
 use Rattle.facet_list.specs.Store.{Slot, Write, Facet, slot_cmp}
-use Rattle.facet_list.specs.Rows.{Rows, rows_after, facets_in, facet_at, member, key_cmp, IsSized, IsStore}
+use Rattle.facet_list.specs.Rows.{Rows, rows_after, facets_in, facet_at, member, key_cmp, IsSized, AreStoreRows}
 use Rattle.facet_list.specs.Room.{size, tally, at_label, live_in, fits_in}
 use Rattle.facet_list.proofs.Slots.{slots_total, exact_slot, tied}
 use Rattle.facet_list.proofs.RowFacets.{find_facets_in, facets_in_unique}
@@ -160,5 +160,5 @@ metered_charged meter now rows after x old new h lt p q counts same made =
     (metered_after meter rows x h lt))
 
 -- the rows after the write are those of a store
-pub stored : (n m : ℕ) (rows after : Rows) (x : Write) → IsStore n rows → IsSized x.key x.value → x.label < n → m ≡ n → after ≡ rows_after rows x → IsStore m after
-stored n m rows after x h sized lt same made = subst (λ (k : ℕ). IsStore k after) (sym same) (subst (IsStore n) (sym made) (store_after n rows x h sized lt))
+pub stored : (n m : ℕ) (rows after : Rows) (x : Write) → AreStoreRows n rows → IsSized x.key x.value → x.label < n → m ≡ n → after ≡ rows_after rows x → AreStoreRows m after
+stored n m rows after x h sized lt same made = subst (λ (k : ℕ). AreStoreRows k after) (sym same) (subst (AreStoreRows n) (sym made) (store_after n rows x h sized lt))

@@ -13,7 +13,7 @@ use Rattle.std.specs.FinMap as finite
 use Rattle.std.proofs.lemmas.Bool.Decides.{nat_tests}
 use Rattle.std.proofs.lemmas.Map.Lookups.{exact_bytes}
 use Rattle.facet_list.specs.Store.{Slot, Facet, slot_cmp}
-use Rattle.facet_list.specs.Rows.{Member, Row, Rows, key_cmp, row_of, member, facet_at, IsSized, IsStore}
+use Rattle.facet_list.specs.Rows.{Member, Row, Rows, key_cmp, row_of, member, facet_at, IsSized, AreStoreRows}
 use Rattle.facet_list.specs.Walk.{is_after, facet_lent}
 use Rattle.facet_list.proofs.Sizes.{sized_at, below_at}
 use Rattle.facet_list.specs.Kept.{IsLeast}
@@ -122,10 +122,10 @@ next_least rows k l o found rest next first = via_row rows (Some (k, l)) (Some k
     (λ t p. ap (λ r. is_lt (ordering_then r (nat_cmp l t.1))) (less_true _ p)) next first
 
 -- the least facet is within its sizes, at a label below the count, and the next one
-pub sized_least : (n : ℕ) (rows : Rows) (after : Option Slot) (o : Option (Bor (Vec ℕ Global) × Label × Option (Bor (List ℕ)))) → IsStore n rows → IsLeast rows after (option_map facet_lent o) → IfSome o (λ f. IsSized f.0.now.items (option_copied f.2))
+pub sized_least : (n : ℕ) (rows : Rows) (after : Option Slot) (o : Option (Bor (Vec ℕ Global) × Label × Option (Bor (List ℕ)))) → AreStoreRows n rows → IsLeast rows after (option_map facet_lent o) → IfSome o (λ f. IsSized f.0.now.items (option_copied f.2))
 sized_least n rows after None h least = tt
 sized_least n rows after (Some f) h least = sized_at n rows (f.0.now.items, f.1.number) (option_copied f.2) h least.here
 
-pub below_least : (n : ℕ) (rows : Rows) (after : Option Slot) (o : Option (Bor (Vec ℕ Global) × Label × Option (Bor (List ℕ)))) → IsStore n rows → IsLeast rows after (option_map facet_lent o) → IfSome o (λ f. f.1.number < n)
+pub below_least : (n : ℕ) (rows : Rows) (after : Option Slot) (o : Option (Bor (Vec ℕ Global) × Label × Option (Bor (List ℕ)))) → AreStoreRows n rows → IsLeast rows after (option_map facet_lent o) → IfSome o (λ f. f.1.number < n)
 below_least n rows after None h least = tt
 below_least n rows after (Some f) h least = below_at n rows (f.0.now.items, f.1.number) (option_copied f.2) h.below least.here

@@ -2,7 +2,7 @@
 
 ghost use Rattle.std.specs.Prelude.{◌≡◌, length, IfOk, option_map};
 ghost use Rattle.std.specs.FinMap as finite;
-ghost use Rattle.facet_list.specs.Rows.{IsStore};
+ghost use Rattle.facet_list.specs.Rows.{AreStoreRows};
 ghost use Rattle.facet_list.specs.Walk.{slot_after, facet_lent};
 ghost use Rattle.facet_list.specs.Kept.{IsLeast};
 ghost use Rattle.facet_index.specs.Rows.{rows_in, row_lent, IsMetered, IsRest, IsFirst};
@@ -24,7 +24,7 @@ pub struct FacetIndex {
     rows: BTreeMap<Vec<u8>, Row>,
     meter: Meter,
     alloc: Global,
-    ghost sound: { IsStore (length meter.limits) (rows_in rows.entries) },
+    ghost sound: { AreStoreRows (length meter.limits) (rows_in rows.entries) },
     ghost metered: { IsMetered meter (rows_in rows.entries) },
 }
 

@@ -14,7 +14,7 @@ use Rattle.std.proofs.lemmas.List.Kept.{AllPairs-filter}
 use Rattle.std.proofs.lemmas.List.Quantifiers.{all_pairs_push}
 use Rattle.facet_list.specs.Store.{Slot, slot_cmp, Write, last_value}
 use Rattle.trapeze_io.specs.Sizes.{IsValue}
-use Rattle.facet_list.specs.Rows.{Rows, Row, Member, row_of, row_after, rows_after, rows_from, rows_of, key_cmp, member, facet_at, read_row, IsSized, IsStore, AreBelow}
+use Rattle.facet_list.specs.Rows.{Rows, Row, Member, row_of, row_after, rows_after, rows_from, rows_of, key_cmp, member, facet_at, read_row, IsSized, AreStoreRows, AreBelow}
 use Rattle.facet_list.proofs.Slots.{slots_total}
 use Rattle.facet_list.proofs.RowLaws.{row_of-after, rows_of-push}
 use Rattle.facet_list.proofs.FacetLaws.{facet_at-after}
@@ -29,7 +29,7 @@ pub once_after : (l : ℕ) (v : Option (List ℕ)) (row : Row) → AllPairs Diff
 once_after l v row h = all_pairs_push Differ (filter (λ (m : Member). not (m.0 == l)) row) (l, v) (AllPairs-filter Differ (λ (m : Member). not (m.0 == l)) row h)
     (λ k d lt. All-get_or (λ (m : Member). m.0 ≢ l) _ k d lt (others l row))
 
-pub store_after : (n : ℕ) (rows : Rows) (x : Write) → IsStore n rows → IsSized x.key x.value → x.label < n → IsStore n (rows_after rows x)
+pub store_after : (n : ℕ) (rows : Rows) (x : Write) → AreStoreRows n rows → IsSized x.key x.value → x.label < n → AreStoreRows n (rows_after rows x)
 store_after n rows x h s lt = record {
   sized = λ key. subst (λ (row : Row). All (λ m. IsSized key m.1) row) (sym (row_of-after rows x key))
       (elim (pointwise nat_eq key x.key) as (λ t. pointwise nat_eq key x.key ≡ t → All (λ m. IsSized key m.1) (cond t (row_after x.label x.value (row_of rows x.key)) (row_of rows key))) [
@@ -49,7 +49,7 @@ store_after n rows x h s lt = record {
       ]);
 }
 
-pub store_empty : (n : ℕ) → IsStore n finite.empty
+pub store_empty : (n : ℕ) → AreStoreRows n finite.empty
 store_empty n = record {
   sized = λ key. subst (λ (row : Row). All (λ m. IsSized key m.1) row) (sym (ap (λ o. unwrap_or o []) (get-empty key_cmp key))) (All-nil (λ (m : Member). IsSized key m.1));
   once = λ key. subst (λ (row : Row). AllPairs Differ row) (sym (ap (λ o. unwrap_or o []) (get-empty key_cmp key))) (λ i j d lt within. omega arith);
@@ -67,7 +67,7 @@ All-member P l v (m ∷ row) e h =
     ] refl e
 
 -- a facet is within its sizes
-pub sized_at : (n : ℕ) (rows : Rows) (s : Slot) (v : Option (List ℕ)) → IsStore n rows → facet_at rows s ≡ Some v → IsSized s.0 v
+pub sized_at : (n : ℕ) (rows : Rows) (s : Slot) (v : Option (List ℕ)) → AreStoreRows n rows → facet_at rows s ≡ Some v → IsSized s.0 v
 sized_at n rows s v h e = All-member (λ (m : Member). IsSized s.0 m.1) s.1 v (row_of rows s.0) e (h.sized s.0)
 
 -- the label of a facet is below the number
@@ -79,7 +79,7 @@ last_sized found [] f h = f
 last_sized found (v ∷ vs) f h = last_sized v vs (All-head IsValue v vs h) (All-tail IsValue v vs h)
 
 -- what is read is within its size
-pub read_sized : (flows : ℕ → ℕ → Bool) (c n : ℕ) (rows : Rows) (key : List ℕ) → IsStore n rows → IsValue (read_row flows c (row_of rows key))
+pub read_sized : (flows : ℕ → ℕ → Bool) (c n : ℕ) (rows : Rows) (key : List ℕ) → AreStoreRows n rows → IsValue (read_row flows c (row_of rows key))
 read_sized flows c n rows key h = last_sized None _ (omega arith)
     (All-map IsValue (λ (m : Member). m.1) _ (All-filter (λ (m : Member). flows m.0 c) (λ (m : Member). IsValue m.1) (row_of rows key)
     (All-weaker (λ (m : Member). IsSized key m.1) (λ (m : Member). IsValue m.1) (λ m s. s.value_fits) (row_of rows key) (h.sized key))))
@@ -111,6 +111,6 @@ pub below_of : (n : ℕ) (w : List Write) → AreBelow n (rows_of w) → All (λ
 below_of n w h = below_from n finite.empty w h
 
 -- a write that may be pushed
-pub store_push : (n : ℕ) (b : Bool) (w : List Write) (x : Write) → IsStore n (rows_of w) → IsSized x.key x.value → x.label < n → IsStore n (rows_of (cond b (w ++ x ∷ []) w))
-store_push n true w x h s lt = subst (IsStore n) (sym (rows_of-push w x)) (store_after n (rows_of w) x h s lt)
+pub store_push : (n : ℕ) (b : Bool) (w : List Write) (x : Write) → AreStoreRows n (rows_of w) → IsSized x.key x.value → x.label < n → AreStoreRows n (rows_of (cond b (w ++ x ∷ []) w))
+store_push n true w x h s lt = subst (AreStoreRows n) (sym (rows_of-push w x)) (store_after n (rows_of w) x h s lt)
 store_push n false w x h s lt = h

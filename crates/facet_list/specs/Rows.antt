@@ -73,7 +73,7 @@ abbrev pub AreBelow : ℕ → Rows → Type 0
 AreBelow n rows = (key : List ℕ) → All (λ m. m.0 < n) (row_of rows key)
 
 -- what holds of the rows of each store with n limits
-pub record IsStore (n : ℕ) (rows : Rows) : Type 0 where
+pub record AreStoreRows (n : ℕ) (rows : Rows) : Type 0 where
   -- the facets of a key are within their sizes
   pub sized : (key : List ℕ) → All (λ m. IsSized key m.1) (row_of rows key)
   -- no two members of a row have one label

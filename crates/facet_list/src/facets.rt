@@ -6,7 +6,7 @@ ghost use Rattle.label_lattice.specs.Order.{count};
 ghost use Rattle.label_lattice.specs.Reach.{flows};
 ghost use Rattle.label_limits.specs.declared.limits.Limits.{Limits as LabelLimits};
 ghost use Rattle.facet_list.specs.Store.{written};
-ghost use Rattle.facet_list.specs.Rows.{Rows, row_of, rows_after, read_row, IsSized, IsStore};
+ghost use Rattle.facet_list.specs.Rows.{Rows, row_of, rows_after, read_row, IsSized, AreStoreRows};
 ghost use Rattle.trapeze_io.specs.Sizes.{IsKey, IsValue};
 ghost use Rattle.facet_list.specs.Room.{fits_in};
 ghost use Rattle.facet_list.specs.Walk.{slot_after, facet_lent, IsNext};
@@ -48,7 +48,7 @@ pub trait Facets: Drop {
         requires value { IsValue (option_copied value) }
         ensures fits { IfOk result (λ wrote.
             wrote ≡ (if fits_in (limits self.old) (rows self.old) (written at.number key.now (option_copied value.entry))
-                then Wrote.Done else Wrote.Full)) }
+            then Wrote.Done else Wrote.Full)) }
         ensures done { result ≡ Ok Wrote.Done →
             rows self.new ≡ rows_after (rows self.old) (written at.number key.now (option_copied value.entry)) }
         ensures full { result ≡ Ok Wrote.Full → rows self.new ≡ rows self.old }
@@ -65,5 +65,5 @@ pub trait Facets: Drop {
         ensures label { IfSome result (λ f. f.1.number < length (limits self.now)) };
 
     /// Keys and values are within their sizes, a row has at most one facet of a label, and each label has its limits.
-    ghost store: { (s : Self) → IsStore (length (limits s)) (rows s) };
+    ghost store: { (s : Self) → AreStoreRows (length (limits s)) (rows s) };
 }

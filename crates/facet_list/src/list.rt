@@ -2,7 +2,7 @@
 
 ghost use Rattle.std.specs.Prelude.{◌≡◌, length, IfOk};
 ghost use Rattle.std.specs.FinMap as finite;
-ghost use Rattle.facet_list.specs.Rows.{rows_of, IsStore};
+ghost use Rattle.facet_list.specs.Rows.{rows_of, AreStoreRows};
 
 use crate::facets::{Facets, Wrote};
 use crate::room::fits;
@@ -20,7 +20,7 @@ pub struct FacetList {
     writes: Vec<Write>,
     limits: Vec<Limits>,
     alloc: Global,
-    ghost sound: { IsStore (length limits.items) (rows_of writes.items) },
+    ghost sound: { AreStoreRows (length limits.items) (rows_of writes.items) },
 }
 
 impl FacetList {

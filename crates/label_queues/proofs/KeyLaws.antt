@@ -11,7 +11,7 @@ use Rattle.label_queues.specs.declared.queues.Refused.{Refused}
 use Rattle.label_queues.specs.declared.queues.Refused.TheVariants.{Full, NoMemory}
 use Rattle.slab.specs.Slab.{Slab, get, Updates, with_value}
 use Rattle.label_queues.specs.Lists.{Lists, list_of, limit_of, with_list}
-use Rattle.label_queues.specs.Keys.{before, items_at, Lacks, AreDistinct, AreApart, AreHeld, keys_at, AreKeys, AreFew}
+use Rattle.label_queues.specs.Keys.{before, items_at, Lacks, AreDistinct, AreApart, AreHeld, keys_at, AreKeys, AreWithinLimits}
 
 -- a place of the table after one list is set
 at_place : (Q : List ℕ → Type 0) (keys : List (List ℕ)) (at : ℕ) (ks : List ℕ) (l : ℕ) → at < length keys
@@ -58,8 +58,8 @@ set_items f g (x ∷ xs) (suc i) v d h = ap (λ z. z ∷ set (map g xs) i v) (h 
     ∙ ap (λ zs. f x ∷ zs) (set_items f g xs i v d (λ m b n. h (suc m) (omega arith) (λ e. n (omega arith))))
 
 -- after one list is set, none has more keys than its limit says
-pub few_set : (keys : List (List ℕ)) (limits : List ℕ) (at : ℕ) (ks : List ℕ) → at < length keys → AreFew keys limits → length ks ≤ slice_index_or limits at 0 → length ks ≤ 4294967295
-    → AreFew (set keys at ks) limits
+pub few_set : (keys : List (List ℕ)) (limits : List ℕ) (at : ℕ) (ks : List ℕ) → at < length keys → AreWithinLimits keys limits → length ks ≤ slice_index_or limits at 0 → length ks ≤ 4294967295
+    → AreWithinLimits (set keys at ks) limits
 few_set keys limits at ks h few within countable = record {
   within = λ l. at_place (λ xs. length xs ≤ slice_index_or limits l 0) keys at ks l h (λ e. subst (λ m. length ks ≤ slice_index_or limits m 0) (sym e) within) (λ n. few.within l);
   countable = λ l. at_place (λ xs. length xs ≤ 4294967295) keys at ks l h (λ e. countable) (λ n. few.countable l);
@@ -254,7 +254,7 @@ module _ {T : Type 0} (s : Slab T) (keys : List (List ℕ)) (limits : List ℕ) 
   pub place_within : length keys ≡ length limits → at < length q.limits → (place : ℕ) → place ≡ at → place < length keys
   place_within e h place p = let same = same_limits in omega (arith, h, e, p, ap length same)
 
-  pub few_here : AreKeys s.slots keys → AreFew keys limits → length (list_of q at) ≤ limit_of q at
+  pub few_here : AreKeys s.slots keys → AreWithinLimits keys limits → length (list_of q at) ≤ limit_of q at
   few_here sound few =
       let e : limit_of q at ≡ slice_index_or limits at 0 = ap (λ ls. get_or ls at 0) same_limits in
       omega (arith, counted sound, few.within at, e)
@@ -365,24 +365,24 @@ module _ {T : Type 0} (s : Slab T) (keys : List (List ℕ)) (limits : List ℕ) 
   not_empty e some = no_item (ap is_some (sym e ∙ slice_get-get_or (keys_at keys place) 0 0 (omega (arith, some, long_here))))
 
 -- the limits are kept by each change
-module _ (keys : List (List ℕ)) (limits : List ℕ) (few : AreFew keys limits) (new : List (List ℕ)) (place : ℕ) (h : place < length keys) where
+module _ (keys : List (List ℕ)) (limits : List ℕ) (few : AreWithinLimits keys limits) (new : List (List ℕ)) (place : ℕ) (h : place < length keys) where
   pub few_arrived : (key n len : ℕ) → n ≡ get_or limits place n → length keys ≡ length limits → len ≡ length (keys_at keys place) → len < n → n < 2 ^ 32
-      → new ≡ set keys place (keys_at keys place ++ key ∷ []) → AreFew new limits
+      → new ≡ set keys place (keys_at keys place ++ key ∷ []) → AreWithinLimits new limits
   few_arrived key n len e long l lt small is =
       let here : n ≡ get_or limits place 0 = get_or_read limits place n (omega (arith, h, long)) e 0 in
       let more : length (keys_at keys place ++ key ∷ []) ≡ len + 1 = simp length-append (omega (arith, l)) in
-      subst (λ ks. AreFew ks limits) (sym is) (few_set keys limits place (keys_at keys place ++ key ∷ []) h few (omega (arith, here, more, lt)) (omega (arith, more, lt, small)))
+      subst (λ ks. AreWithinLimits ks limits) (sym is) (few_set keys limits place (keys_at keys place ++ key ∷ []) h few (omega (arith, here, more, lt)) (omega (arith, more, lt, small)))
 
-  pub few_rotated : new ≡ set keys place (drop 1 (keys_at keys place) ++ take 1 (keys_at keys place)) → AreFew new limits
+  pub few_rotated : new ≡ set keys place (drop 1 (keys_at keys place) ++ take 1 (keys_at keys place)) → AreWithinLimits new limits
   few_rotated is =
       let same : length (drop 1 (keys_at keys place) ++ take 1 (keys_at keys place)) ≡ length (keys_at keys place) =
       simp (length-append, length-drop, length-take) (omega arith) in
-      subst (λ ks. AreFew ks limits) (sym is) (few_set keys limits place (drop 1 (keys_at keys place) ++ take 1 (keys_at keys place)) h few (omega (arith, same, few.within place)) (omega (arith, same, few.countable place)))
+      subst (λ ks. AreWithinLimits ks limits) (sym is) (few_set keys limits place (drop 1 (keys_at keys place) ++ take 1 (keys_at keys place)) h few (omega (arith, same, few.within place)) (omega (arith, same, few.countable place)))
 
-  pub few_left : new ≡ set keys place (drop 1 (keys_at keys place)) → AreFew new limits
+  pub few_left : new ≡ set keys place (drop 1 (keys_at keys place)) → AreWithinLimits new limits
   few_left is =
       let less : length (drop 1 (keys_at keys place)) ≡ length (keys_at keys place) - 1 = length-drop 1 (keys_at keys place) in
-      subst (λ ks. AreFew ks limits) (sym is) (few_set keys limits place (drop 1 (keys_at keys place)) h few (omega (arith, less, few.within place)) (omega (arith, less, few.countable place)))
+      subst (λ ks. AreWithinLimits ks limits) (sym is) (few_set keys limits place (drop 1 (keys_at keys place)) h few (omega (arith, less, few.within place)) (omega (arith, less, few.countable place)))
 
 -- lists without keys
 none_at : (n l : ℕ) → keys_at (replicate n []) l ≡ []
@@ -398,7 +398,7 @@ no_keys s n = record {
   apart = λ l m k. subst (λ xs. AreApart xs (keys_at (replicate n []) m)) (sym (none_at n l)) tt;
 }
 
-pub few_none : (n : ℕ) (limits : List ℕ) → AreFew (replicate n []) limits
+pub few_none : (n : ℕ) (limits : List ℕ) → AreWithinLimits (replicate n []) limits
 few_none n limits = record {
   within = λ l. subst (λ xs. length xs ≤ slice_index_or limits l 0) (sym (none_at n l)) (omega arith);
   countable = λ l. subst (λ xs. length xs ≤ 4294967295) (sym (none_at n l)) (omega arith);

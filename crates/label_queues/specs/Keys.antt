@@ -41,6 +41,6 @@ pub record AreKeys {T : Type 0} (slots : List (Option T)) (keys : List (List ℕ
   pub apart : (l m : ℕ) → l ≢ m → AreApart (keys_at keys l) (keys_at keys m)
 
 -- no list has more keys than its limit says, nor more than 32 bits count
-pub record AreFew (keys : List (List ℕ)) (limits : List ℕ) : Type 0 where
+pub record AreWithinLimits (keys : List (List ℕ)) (limits : List ℕ) : Type 0 where
   pub within : (l : ℕ) → length (keys_at keys l) ≤ slice_index_or limits l 0
   pub countable : (l : ℕ) → length (keys_at keys l) ≤ 4294967295

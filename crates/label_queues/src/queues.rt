@@ -38,11 +38,11 @@ impl<T> Model for Queues<T> {
 
     ghost coded = { lists_code T.code };
 
-    ghost use Rattle.label_queues.specs.Keys.{items_at, AreKeys, AreFew};
+    ghost use Rattle.label_queues.specs.Keys.{items_at, AreKeys, AreWithinLimits};
 
     ghost view = { λ q. record { lists = map (items_at q.items.slots) q.keys; limits = q.limits.items } };
 
-    ghost invariant = { λ q. AreKeys q.items.slots q.keys × (length q.keys ≡ length q.limits.items) × AreFew q.keys q.limits.items };
+    ghost invariant = { λ q. AreKeys q.items.slots q.keys × (length q.keys ≡ length q.limits.items) × AreWithinLimits q.keys q.limits.items };
 }
 
 impl<T> Queues<T> {

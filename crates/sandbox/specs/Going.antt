@@ -26,9 +26,9 @@ pub record Asks (m : Module) (course : Course) (used : ℕ) (s : Suspended) : Ty
   pub waits : IsWaiting m s
 
 -- how a run of units ended
-abbrev pub Ends : Module → Course → ℕ → Going → Type 0
-Ends m course used (going.Spent s) = (course ≡ record { used = used; stop = Goes (thread_of m s) }) × IsReady m s
-Ends m course used going.Done = course ≡ record { used = used; stop = Done }
-Ends m course used (going.Trapped t) = course ≡ record { used = used; stop = Trapped t }
-Ends m course used (going.Asks s) = Asks m course used s
-Ends m course used going.NoMemory = Unit {0}
+abbrev pub EndsAs : Module → Course → ℕ → Going → Type 0
+EndsAs m course used (going.Spent s) = (course ≡ record { used = used; stop = Goes (thread_of m s) }) × IsReady m s
+EndsAs m course used going.Done = course ≡ record { used = used; stop = Done }
+EndsAs m course used (going.Trapped t) = course ≡ record { used = used; stop = Trapped t }
+EndsAs m course used (going.Asks s) = Asks m course used s
+EndsAs m course used going.NoMemory = Unit {0}

@@ -4,7 +4,7 @@ ghost use Rattle.std.specs.Prelude.{◌≡◌, ◌≤◌, IfOk, OnErr};
 ghost use Rattle.wasm_ast.specs.Spaces.{first_pages};
 ghost use Rattle.wasm_semantics.specs.Units.{units as units_of};
 ghost use Rattle.sandbox.specs.Threads.{thread_of, IsReady};
-ghost use Rattle.sandbox.specs.Going.{Begins, Ends};
+ghost use Rattle.sandbox.specs.Going.{Begins, EndsAs};
 
 use crate::going::{Begun, Going, Went};
 use crate::suspended::Suspended;
@@ -49,7 +49,7 @@ impl Sandbox {
     /// Takes units, up to a number of them, where the memory may have so many pages. The sandbox is spent; what is left of it comes back.
     pub fn go(self, module: &ValidModule, pages: u32, units: u64) -> Went
         requires ready { IsReady module.now self }
-        ensures ends { Ends module.now (units_of module.now pages (thread_of module.now self) units) result.used result.going }
+        ensures ends { EndsAs module.now (units_of module.now pages (thread_of module.now self) units) result.used result.going }
         ensures within { result.used ≤ units }
     {
         let Sandbox { mut machine } = self;

@@ -26,7 +26,7 @@ use Rattle.host_rules.specs.Modules.{guest_of}
 use Rattle.shim_calls.specs.declared.effect.Effect.{Effect}
 use Rattle.shim_calls.specs.declared.effect.Effect.TheVariants as effect
 use Rattle.shim_calls.specs.Performing.{made, Resumes}
-use Rattle.shim_calls.specs.Wished.{Tells}
+use Rattle.shim_calls.specs.Wished.{MakesLines}
 
 -- an access that was not refused gives something, and one that was gives nothing
 was_given : {A E : Type 0} (fault : E) (o : Option A) (x : Unit {0}) → Ok x ≡ refused fault o → (y : A) × (o ≡ Some y)
@@ -48,7 +48,7 @@ module _ (P : Rules) (m : Module) (modules : List Module) (c : ℕ) (a : Activat
   -- bytes were copied to it
   pub copied_to : {E : Type 0} (fault : E) (u : Thread) (memory front bytes : List ℕ) (at cap : ℕ) (lines : List Line) (e : Option Effect) (x : Unit {0}) → t.store.memory ≡ memory → front ≡ take cap bytes
       → Ok x ≡ refused fault (memory_write memory at front) → u ≡ with_memory t (unwrap_or (memory_write memory at front) memory) → thread_of m sandbox ≡ answered u (Some (length bytes))
-      → IsReady m sandbox → Tells P c a s lines e → rows ≡ rows_of s.store → Resumes P m c a s (copied (guest_of modules) t at cap bytes lines) rows sandbox e
+      → IsReady m sandbox → MakesLines P c a s lines e → rows ≡ rows_of s.store → Resumes P m c a s (copied (guest_of modules) t at cap bytes lines) rows sandbox e
   copied_to fault u memory front bytes at cap lines e x memory_is front_is ok put thread ready tells stored =
       let M = guest_of modules in
       let given = was_given fault (memory_write memory at front) x ok in

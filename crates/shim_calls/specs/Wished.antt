@@ -87,8 +87,8 @@ IsFitWish labels functions (asks.Release gate bytes) = IsFitRelease labels funct
 IsFitWish labels functions asks.Nothing = Unit {0}
 
 -- these lines are all that the effect makes
-abbrev pub Tells : Rules → ℕ → Activation Thread → State Thread → List Line → Option Effect → Type 0
-Tells P c a s lines effect = then_lines lines (still s) ≡ made P c a effect s
+abbrev pub MakesLines : Rules → ℕ → Activation Thread → State Thread → List Line → Option Effect → Type 0
+MakesLines P c a s lines effect = then_lines lines (still s) ≡ made P c a effect s
 
 -- what comes of a call, for the guest that is in it, the activation, the writes so far and the thread
 abbrev pub Call : Type 0
@@ -109,5 +109,5 @@ Grants P c suspended input x before after done =
 abbrev pub Copies : Suspended → ℕ → ℕ → List ℕ → Option Effect → Performed → Type 0
 Copies suspended at cap bytes effect done =
     (P : Rules) (m : Module) (modules : List Module) (c : ℕ) (a : Activation Thread) (s : State Thread) (lines : List Line)
-    (rows : Rows) → IsWaiting m suspended → Tells P c a s lines effect → rows ≡ rows_of s.store
+    (rows : Rows) → IsWaiting m suspended → MakesLines P c a s lines effect → rows ≡ rows_of s.store
     → Performs P m c a s (copied (guest_of modules) (waiting m suspended) at cap bytes lines) rows done

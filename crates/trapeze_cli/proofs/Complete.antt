@@ -11,7 +11,7 @@ use Rattle.trapeze_cli.specs.Appends.{AppendsAll}
 use Rattle.trapeze_cli.specs.Command.{policy_in, Task, Plays, Says, Answer, answer_of, answer_of_file, status_at, events_limit, IsTask}
 use Rattle.trapeze_cli.specs.Forms.{Form, Source, policy_name, Command, OnFiles, on_files}
 use Rattle.trapeze_cli.specs.Opens.{IsLast}
-use Rattle.trapeze_cli.specs.Played.{End, AtEnd, AtBad, PastLimit, played_of}
+use Rattle.trapeze_cli.specs.Played.{FileEnd, AtEnd, AtBad, PastLimit, played_of}
 use Rattle.trapeze_cli.specs.Promises.{IsGiven}
 use Rattle.trapeze_cli.specs.Runs.{Setting}
 use Rattle.trapeze_cli.specs.Statuses.{Says as SaysLine, Named, no_names, named_by, named_in, error_text, WithNames}
@@ -22,7 +22,7 @@ use Rattle.trapeze_cli.proofs.Tasks.{one_task}
 
 -- a refusal has no text
 
-ended_finished : (end : End) → why (status_at end) ≡ Finished
+ended_finished : (end : FileEnd) → why (status_at end) ≡ Finished
 ended_finished AtEnd = refl
 ended_finished (AtBad bad) = refl
 ended_finished PastLimit = refl

@@ -11,7 +11,7 @@ use Rattle.event_file.specs.declared.entry.Entry.{Entry}
 use Rattle.event_file.specs.declared.fault.LineError.{LineError}
 use Rattle.event_file.proofs.HeardLines.{short_heard}
 use Rattle.trapeze_cli.specs.Played.{AtEnd, AtBad, PastLimit, played_of, up_to}
-use Rattle.trapeze_cli.specs.Playing.{Passes, FailsAt, IsDry, Follows}
+use Rattle.trapeze_cli.specs.Playing.{HasPassed, FailsAt, IsDry, HasFollowed}
 use Rattle.trapeze_cli.proofs.HeardPrefixes.{Begins}
 use Rattle.trapeze_cli.proofs.PassedLines.{after_both, nothing_after}
 
@@ -19,16 +19,16 @@ fresh : Known → Reader
 fresh known = record { known = known; kept = []; lines = 0; fed = 0; finished = false; bad = None }
 
 -- a reader that was fed nothing
-pub follows_new : (known : Known) (r : Reader) → r ≡ record { known = known; kept = []; lines = 0; fed = 0; finished = false; bad = None } → Follows known [] [] r
+pub follows_new : (known : Known) (r : Reader) → r ≡ record { known = known; kept = []; lines = 0; fed = 0; finished = false; bad = None } → HasFollowed known [] [] r
 follows_new known r is = rw is (record { knows = refl; feeding = refl; fed = refl; all = λ more. refl; counted = λ more. refl })
 
 pub dry_new : (known : Known) (r : Reader) → r ≡ record { known = known; kept = []; lines = 0; fed = 0; finished = false; bad = None } → IsDry r
 dry_new known r is = rw is (record { good = refl; short = record { part = refl; short = refl } })
 
-pub follows_fed : (known : Known) (given : List ℕ) (entries : List Entry) (r new : Reader) (bytes : List ℕ) → Follows known given entries r
+pub follows_fed : (known : Known) (given : List ℕ) (entries : List Entry) (r new : Reader) (bytes : List ℕ) → HasFollowed known given entries r
     → new ≡ record r { kept = r.kept ++ bytes; fed = r.fed + length bytes }
     → ((more : List ℕ) → entries_with new more ≡ entries_with r (bytes ++ more)) → ((more : List ℕ) → heard_with new more ≡ heard_with r (bytes ++ more))
-    → Follows known (given ++ bytes) entries new
+    → HasFollowed known (given ++ bytes) entries new
 follows_fed known given entries r new bytes f is k h = record {
   knows = ap (λ (x : Reader). x.known) is ∙ f.knows;
   feeding = ap (λ (x : Reader). x.finished) is ∙ f.feeding;
@@ -37,8 +37,8 @@ follows_fed known given entries r new bytes f is k h = record {
   counted = λ more. ap (heard known) (append_assoc given bytes more) ∙ f.counted (bytes ++ more) ∙ ap (after entries) (sym (h more));
 }
 
-pub follows_passed : (known : Known) (given : List ℕ) (entries passed : List Entry) (r new : Reader) → Follows known given entries r → Passes r new passed
-    → Follows known given (entries ++ passed) new
+pub follows_passed : (known : Known) (given : List ℕ) (entries passed : List Entry) (r new : Reader) → HasFollowed known given entries r → HasPassed r new passed
+    → HasFollowed known given (entries ++ passed) new
 follows_passed known given entries passed r new f p = record {
   knows = p.known ∙ f.knows;
   feeding = p.finished ∙ f.feeding;
@@ -48,7 +48,7 @@ follows_passed known given entries passed r new f p = record {
 }
 
 -- what is heard of the bytes given, where nothing but a part of a line is kept
-pub heard_dry : (known : Known) (given : List ℕ) (entries : List Entry) (r : Reader) → Follows known given entries r → IsDry r
+pub heard_dry : (known : Known) (given : List ℕ) (entries : List Entry) (r : Reader) → HasFollowed known given entries r → IsDry r
     → heard known given ≡ record { entries = entries; bad = None }
 heard_dry known given entries r f d =
     ap (heard known) (sym (append-nil given)) ∙ f.counted [] ∙ ap (after entries) (short_heard r d.short) ∙ nothing_after entries None
@@ -67,7 +67,7 @@ begins_cond true entries past whole p w = p
 begins_cond false entries past whole p w = w
 
 -- what was passed is played first
-pub played_begins : (limit : ℕ) (known : Known) (given rest : List ℕ) (entries : List Entry) (r : Reader) → Follows known given entries r → length given ≤ limit
+pub played_begins : (limit : ℕ) (known : Known) (given rest : List ℕ) (entries : List Entry) (r : Reader) → HasFollowed known given entries r → length given ≤ limit
     → Begins (played_of limit known (given ++ rest)).entries entries
 played_begins limit known given rest entries r f l =
     begins_cond (nat_lt limit (length (given ++ rest))) entries (heard known (take limit (given ++ rest))) (entries_of known (given ++ rest))
@@ -81,7 +81,7 @@ same_cond true past whole entries bad p w = ap (up_to PastLimit) p
 same_cond false past whole entries bad p w = ap (up_to AtEnd) w
 
 -- a bad line was met
-pub played_bad : (limit : ℕ) (known : Known) (given rest : List ℕ) (entries passed : List Entry) (r : Reader) (bad : LineError) → Follows known given entries r → FailsAt r passed bad
+pub played_bad : (limit : ℕ) (known : Known) (given rest : List ℕ) (entries passed : List Entry) (r : Reader) (bad : LineError) → HasFollowed known given entries r → FailsAt r passed bad
     → length given ≤ limit → played_of limit known (given ++ rest) ≡ record { entries = entries ++ passed; end = AtBad bad }
 played_bad limit known given rest entries passed r bad f fails l =
     same_cond (nat_lt limit (length (given ++ rest))) (heard known (take limit (given ++ rest))) (entries_of known (given ++ rest)) (entries ++ passed) bad
@@ -89,7 +89,7 @@ played_bad limit known given rest entries passed r bad f fails l =
     (f.all rest ∙ ap (after entries) (fails.all rest))
 
 -- the file was read to its end
-pub played_whole : (limit : ℕ) (known : Known) (given : List ℕ) (entries : List Entry) (r : Reader) → Follows known given entries r → length given ≤ limit
+pub played_whole : (limit : ℕ) (known : Known) (given : List ℕ) (entries : List Entry) (r : Reader) → HasFollowed known given entries r → length given ≤ limit
     → played_of limit known given ≡ up_to AtEnd (after entries (entries_with r []))
 played_whole limit known given entries r f l =
     ap (λ b. cond b (up_to PastLimit (heard known (take limit given))) (up_to AtEnd (entries_of known given))) (le-ltb limit (length given) l)

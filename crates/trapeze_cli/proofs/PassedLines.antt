@@ -17,7 +17,7 @@ use Rattle.host_rules.specs.Play.{trace, items_of}
 use Rattle.trapeze_cli.specs.declared.halt.Halt.{Halt}
 use Rattle.trapeze_cli.specs.Played.{AtEnd, end_at, entry_events, events_of}
 use Rattle.trapeze_cli.specs.Runs.{Setting}
-use Rattle.trapeze_cli.specs.Playing.{PlaysOn, Passes, FailsAt, Drains, said_of, text_from, lines_from}
+use Rattle.trapeze_cli.specs.Playing.{PlaysOn, HasPassed, FailsAt, Drains, said_of, text_from, lines_from}
 use Rattle.trapeze_cli.proofs.Showing.{said-append}
 use Rattle.trapeze_cli.proofs.Playing.{state_after, plays_both, plays_all}
 
@@ -36,10 +36,10 @@ pub record Stays (old new : Reader) : Type 0 where
 pub stays_of : (old new : Reader) (bad : Option LineError) → new ≡ record old { kept = new.kept; lines = new.lines; bad = bad } → Stays old new
 stays_of old new bad is = record { known = ap (λ (r : Reader). r.known) is; finished = ap (λ (r : Reader). r.finished) is; fed = ap (λ (r : Reader). r.fed) is }
 
-pub passes_none : (r : Reader) → Passes r r []
+pub passes_none : (r : Reader) → HasPassed r r []
 passes_none r = record { known = refl; finished = refl; fed = refl; all = λ more. refl; counted = λ more. refl }
 
-passes_both : (a b c : Reader) (first second : List Entry) → Passes a b first → Passes b c second → Passes a c (first ++ second)
+passes_both : (a b c : Reader) (first second : List Entry) → HasPassed a b first → HasPassed b c second → HasPassed a c (first ++ second)
 passes_both a b c first second p q = record {
   known = q.known ∙ p.known;
   finished = q.finished ∙ p.finished;
@@ -49,15 +49,15 @@ passes_both a b c first second p q = record {
 }
 
 -- one more entry
-pub passes_entry : (a b c : Reader) (entries : List Entry) (entry : Entry) → Passes a b entries → Stays b c
+pub passes_entry : (a b c : Reader) (entries : List Entry) (entry : Entry) → HasPassed a b entries → Stays b c
     → ((more : List ℕ) → Continues entries_with b c (next.Entry entry) more) → ((more : List ℕ) → Continues heard_with b c (next.Entry entry) more)
-    → Passes a c (entries ++ entry ∷ [])
+    → HasPassed a c (entries ++ entry ∷ [])
 passes_entry a b c entries entry p stays k h =
     passes_both a b c entries (entry ∷ []) p (record { known = stays.known; finished = stays.finished; fed = stays.fed; all = k; counted = h })
 
 -- no entry, in the lines that were passed
-same_entries : (a b c : Reader) (entries : List Entry) → Passes a b entries → Stays b c
-    → ((more : List ℕ) → entries_with b more ≡ entries_with c more) → ((more : List ℕ) → heard_with b more ≡ heard_with c more) → Passes a c entries
+same_entries : (a b c : Reader) (entries : List Entry) → HasPassed a b entries → Stays b c
+    → ((more : List ℕ) → entries_with b more ≡ entries_with c more) → ((more : List ℕ) → heard_with b more ≡ heard_with c more) → HasPassed a c entries
 same_entries a b c entries p stays k h = record {
   known = stays.known ∙ p.known;
   finished = stays.finished ∙ p.finished;
@@ -66,14 +66,14 @@ same_entries a b c entries p stays k h = record {
   counted = λ more. p.counted more ∙ ap (after entries) (h more);
 }
 
-pub passes_dry : (a b c : Reader) (entries : List Entry) → Passes a b entries → b.bad ≡ None → c ≡ record b { kept = c.kept; lines = c.lines; bad = b.bad }
+pub passes_dry : (a b c : Reader) (entries : List Entry) → HasPassed a b entries → b.bad ≡ None → c ≡ record b { kept = c.kept; lines = c.lines; bad = b.bad }
     → ((more : List ℕ) → Continues entries_with b c next.NoLine more) → ((more : List ℕ) → Continues heard_with b c next.NoLine more)
     → IsShort c → Drains a c entries (Ok None)
 passes_dry a b c entries p good is k h short =
     (same_entries a b c entries p (stays_of b c b.bad is) k h, record { good = ap (λ (r : Reader). r.bad) is ∙ good; short = short })
 
-pub passes_waiting : (a b c : Reader) (entries : List Entry) → Passes a b entries → c ≡ record b { kept = c.kept; lines = c.lines; bad = b.bad }
-    → ((more : List ℕ) → Continues entries_with b c next.NoMemory more) → ((more : List ℕ) → Continues heard_with b c next.NoMemory more) → Passes a c entries
+pub passes_waiting : (a b c : Reader) (entries : List Entry) → HasPassed a b entries → c ≡ record b { kept = c.kept; lines = c.lines; bad = b.bad }
+    → ((more : List ℕ) → Continues entries_with b c next.NoMemory more) → ((more : List ℕ) → Continues heard_with b c next.NoMemory more) → HasPassed a c entries
 passes_waiting a b c entries p is k h = same_entries a b c entries p (stays_of b c b.bad is) k h
 
 pub nothing_after : (entries : List Entry) (bad : Option LineError) → after entries (record { entries = []; bad = bad }) ≡ record { entries = entries; bad = bad }
@@ -82,7 +82,7 @@ nothing_after entries bad = ap (λ es. the es) (append-nil entries)
     the : List Entry → Entries
     the es = record { entries = es; bad = bad }
 
-pub passes_bad : (a b c : Reader) (entries : List Entry) (bad : LineError) → Passes a b entries
+pub passes_bad : (a b c : Reader) (entries : List Entry) (bad : LineError) → HasPassed a b entries
     → ((more : List ℕ) → Continues entries_with b c (next.Bad bad) more) → ((more : List ℕ) → Continues heard_with b c (next.Bad bad) more) → FailsAt a entries bad
 passes_bad a b c entries bad p k h = record {
   all = λ more. p.all more ∙ ap (after entries) (k more) ∙ nothing_after entries (Some bad);

@@ -13,19 +13,19 @@ use Rattle.host_rules.proofs.NoGates.{noninterfering_alone}
 use Rattle.trapeze_cli.specs.declared.status.Status.{Status}
 use Rattle.trapeze_cli.specs.Command.{status_at}
 use Rattle.trapeze_cli.specs.Appends.{AppendsAll}
-use Rattle.trapeze_cli.specs.Played.{End, AtEnd, AtBad, PastLimit, Played, events_of}
+use Rattle.trapeze_cli.specs.Played.{FileEnd, AtEnd, AtBad, PastLimit, Played, events_of}
 use Rattle.trapeze_cli.specs.Runs.{Setting, lines_to, lines_played, text_of}
 use Rattle.trapeze_cli.specs.Promises.{IsPrivate, shown_of}
 use Rattle.trapeze_cli.proofs.Showing.{shown_alike}
 
 -- items that look the same look the same up to any end
-ends_alike : (P : Rules) (M : Guest Thread) (o : ℕ) (end : End) (items others : List Item) → SeesTheSame P M o [] items others
+ends_alike : (P : Rules) (M : Guest Thread) (o : ℕ) (end : FileEnd) (items others : List Item) → SeesTheSame P M o [] items others
     → visible P o (lines_to end P M items) ≡ visible P o (lines_to end P M others)
 ends_alike P M o AtEnd items others sees = sees.of_whole
 ends_alike P M o (AtBad bad) items others sees = sees.of_trace
 ends_alike P M o PastLimit items others sees = sees.of_trace
 
-shown_same : (g : Setting) (o : ℕ) (end : End) (items others : List Item) → SeesTheSame g.rules g.guest o [] items others
+shown_same : (g : Setting) (o : ℕ) (end : FileEnd) (items others : List Item) → SeesTheSame g.rules g.guest o [] items others
     → visible g.rules o (shown_of g end items) ≡ visible g.rules o (shown_of g end others)
 shown_same g o end items others sees =
     shown_alike g.rules g.shown o (lines_to end g.rules g.guest items) (lines_to end g.rules g.guest others) (ends_alike g.rules g.guest o end items others sees)

@@ -21,13 +21,13 @@ use Rattle.trapeze_cli.specs.declared.halt.Halt.{Halt}
 use Rattle.trapeze_cli.specs.declared.halt.Halt.TheVariants.{Write, NoMemory}
 use Rattle.trapeze_cli.specs.declared.status.Status.TheVariants as status
 use Rattle.trapeze_cli.specs.declared.status.Input.TheVariants as input
-use Rattle.trapeze_cli.specs.Played.{End, AtEnd, AtBad, PastLimit, Played, played_of, up_to, end_at, entry_events, events_of}
+use Rattle.trapeze_cli.specs.Played.{FileEnd, AtEnd, AtBad, PastLimit, Played, played_of, up_to, end_at, entry_events, events_of}
 use Rattle.trapeze_cli.specs.Runs.{Setting, lines_to, text_of, text_before, text_heard}
 use Rattle.trapeze_cli.specs.Command.{events_limit, piece, status_at}
 use Rattle.trapeze_cli.specs.Appends.{AppendsAll, AppendsPrefix, AppendsLess}
 use Rattle.trapeze_cli.specs.Promises.{StopsAt}
 use Rattle.trapeze_cli.specs.Whys.{why}
-use Rattle.trapeze_cli.specs.Playing.{AppendsBy, said_of, lines_from, IsDry, Drains, Follows, file_in, played_in_file, texts_of, WritesOf, PlaysFile, status_of}
+use Rattle.trapeze_cli.specs.Playing.{AppendsBy, said_of, lines_from, IsDry, Drains, HasFollowed, file_in, played_in_file, texts_of, WritesOf, PlaysFile, status_of}
 use Rattle.trapeze_cli.proofs.Showing.{said-append}
 use Rattle.trapeze_cli.proofs.Prefixes.{by_after, prefix_after, prefix_wider, less_after, less_wider}
 use Rattle.trapeze_cli.proofs.Playing.{state_after, state_both, trace_both}
@@ -36,7 +36,7 @@ use Rattle.trapeze_cli.proofs.FollowedFile.{follows_passed, heard_dry, played_be
 
 -- the texts
 
-lines_both : (g : Setting) (end : End) (s : State Thread) (first second : List Event)
+lines_both : (g : Setting) (end : FileEnd) (s : State Thread) (first second : List Event)
     → lines_from g end s (first ++ second) ≡ trace g.rules g.guest s (items_of first) ++ lines_from g end (state_after g s first) second
 lines_both g AtEnd s first second =
     ap (λ ls. ls ++ facet_lines (state_after g s (first ++ second)).store) (trace_both g s first second)
@@ -45,13 +45,13 @@ lines_both g AtEnd s first second =
 lines_both g (AtBad bad) s first second = trace_both g s first second
 lines_both g PastLimit s first second = trace_both g s first second
 
-lines_start : (g : Setting) (end : End) (events : List Event) → lines_to end g.rules g.guest (items_of events) ≡ lines_from g end (start []) events
+lines_start : (g : Setting) (end : FileEnd) (events : List Event) → lines_to end g.rules g.guest (items_of events) ≡ lines_from g end (start []) events
 lines_start g AtEnd events = refl
 lines_start g (AtBad bad) events = refl
 lines_start g PastLimit events = refl
 
 -- the text of what is played that begins with some entries
-pub text_after : (g : Setting) (end : End) (first second : List Entry)
+pub text_after : (g : Setting) (end : FileEnd) (first second : List Entry)
     → text_of g (record { entries = first ++ second; end = end })
     ≡ text_before g first ++ said_of g (lines_from g end (state_after g (start []) (events_of first)) (events_of second))
 text_after g end first second =
@@ -117,7 +117,7 @@ before_last g r given last is short good =
 
 -- a read failed
 pub answers_fault : (g : Setting) (r : OpenFile) (given : List ℕ) (entries : List Entry) (reader : Reader) (old new : Option (List ℕ))
-    → r.given ≡ given → length given ≤ events_limit → Follows g.known given entries reader → IsDry reader → AppendsAll (text_before g entries) old new
+    → r.given ≡ given → length given ≤ events_limit → HasFollowed g.known given entries reader → IsDry reader → AppendsAll (text_before g entries) old new
     → PlaysFile g r (status.ReadFault input.Events) old new
 answers_fault g r given entries reader old new is l f d w =
     let h : heard g.known r.given ≡ record { entries = entries; bad = None } = ap (heard g.known) is ∙ heard_dry g.known given entries reader f d in
@@ -131,7 +131,7 @@ answers_fault g r given entries reader old new is l f d w =
 
 -- a byte past the limit came
 pub answers_past : (g : Setting) (r : OpenFile) (given over : List ℕ) (entries : List Entry) (reader : Reader) (old new : Option (List ℕ))
-    → r.given ≡ given ++ over → length given ≡ events_limit → length over ≡ 1 → Follows g.known given entries reader → IsDry reader
+    → r.given ≡ given ++ over → length given ≡ events_limit → length over ≡ 1 → HasFollowed g.known given entries reader → IsDry reader
     → AppendsAll (text_before g entries) old new → PlaysFile g r (status.TooLong input.Events) old new
 answers_past g r given over entries reader old new is l o f d w =
     let sc : played_in_file g r ≡ record { entries = entries; end = PastLimit } =
@@ -146,7 +146,7 @@ answers_past g r given over entries reader old new is l o f d w =
 
 -- out of memory for a piece
 pub answers_want : (g : Setting) (r : OpenFile) (given last : List ℕ) (entries : List Entry) (reader : Reader) (old new : Option (List ℕ))
-    → r.given ≡ given ++ last → length given ≤ events_limit → Follows g.known given entries reader
+    → r.given ≡ given ++ last → length given ≤ events_limit → HasFollowed g.known given entries reader
     → AppendsAll (text_before g entries) old new → PlaysFile g r status.NoMemory old new
 answers_want g r given last entries reader old new is l f w = record {
   tells = tt;
@@ -164,7 +164,7 @@ answers_want g r given last entries reader old new is l f w = record {
 -- a piece was played up to a halt, or up to a bad line
 pub answers_piece : (g : Setting) (r : OpenFile) (given last : List ℕ) (entries passed : List Entry) (reader fed left : Reader) (result : Result (Option LineError) Halt) (old mid new : Option (List ℕ))
     → r.given ≡ given ++ last → length last ≤ piece → length (given ++ last) ≤ events_limit
-    → Follows g.known given entries reader → IsDry reader → Follows g.known (given ++ last) entries fed → Drains fed left passed result
+    → HasFollowed g.known given entries reader → IsDry reader → HasFollowed g.known (given ++ last) entries fed → Drains fed left passed result
     → AppendsAll (text_before g entries) old mid
     → AppendsBy result (said_of g (trace g.rules g.guest (state_after g (start []) (events_of entries)) (items_of (events_of passed)))) mid new
     → ¬ (result ≡ Ok None) → PlaysFile g r (status_of result) old new
@@ -215,7 +215,7 @@ answers_piece g r given last entries passed reader fed left (Err halt) old mid n
 
 -- the file ended, and its last line and the facets were told, up to a halt or a bad line
 pub answers_end : (g : Setting) (r : OpenFile) (given : List ℕ) (entries : List Entry) (reader : Reader) (result : Result (Option LineError) Halt) (old mid new : Option (List ℕ))
-    → r.given ≡ given → r.rest ≡ [] → length given ≤ events_limit → Follows g.known given entries reader → IsDry reader
+    → r.given ≡ given → r.rest ≡ [] → length given ≤ events_limit → HasFollowed g.known given entries reader → IsDry reader
     → AppendsAll (text_before g entries) old mid
     → IfOk result (λ bad. (entries_with reader []).bad ≡ bad)
     → AppendsBy result (said_of g (lines_from g (end_at AtEnd (entries_with reader []).bad) (state_after g (start []) (events_of entries)) (events_of (entries_with reader []).entries))) mid new

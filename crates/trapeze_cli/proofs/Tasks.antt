@@ -20,7 +20,7 @@ use Rattle.trapeze_cli.specs.declared.status.Input.TheVariants.{Module as module
 use Rattle.trapeze_cli.specs.declared.status.ModuleFault.{ModuleFault}
 use Rattle.trapeze_cli.specs.declared.status.ModuleFault.TheVariants.{Decode, Invalid}
 use Rattle.trapeze_cli.specs.Forms.{Form, policy_name, Command, Exercise, OnFiles}
-use Rattle.trapeze_cli.specs.Command.{module_limit, file_of, policy_in, shown_in, IsFaulty, IsModule, AreModules, Prepared, IsPrepared, Task, task_under, IsTaskUnder, IsTaskBy, IsTask, Answer, IsAnswer, answer_of}
+use Rattle.trapeze_cli.specs.Command.{module_limit, file_of, policy_in, shown_in, IsFaulty, IsModule, AreModules, Prepared, IsPrepared, Task, task_under, IsTaskUnder, IsTaskBy, IsTask, Answer, IsAnswerOf, answer_of}
 
 ok_one : {X : Type 0} (r : Result X Status) (a b : X) → r ≡ Ok a → r ≡ Ok b → a ≡ b
 ok_one {X = X} r a b p q = let e : ◌≡◌ {A = Result X Status} (Ok a) (Ok b) = sym p ∙ q in cc
@@ -147,5 +147,5 @@ module _ (held : Held) where
   one_task (Some (Exercise number)) r q p w = p ∙ sym w
   one_task (Some (OnFiles form)) r q p w = one_task_by form (policy_in held (policy_name form)) r q p w
 
-pub one_answer : (words : Option Command) (held : Held) (a b : Answer) → IsAnswer (IsTask words) held a → IsAnswer (IsTask words) held b → a ≡ b
+pub one_answer : (words : Option Command) (held : Held) (a b : Answer) → IsAnswerOf (IsTask words) held a → IsAnswerOf (IsTask words) held b → a ≡ b
 one_answer words held a b p q = p.answered ∙ ap (answer_of held) (one_task held words p.task q.task p.is_task q.is_task) ∙ sym q.answered

@@ -23,7 +23,7 @@ use Rattle.trapeze_cli.specs.declared.shown.Shown.{Shown}
 use Rattle.trapeze_cli.specs.declared.shown.Shown.TheVariants.{RunKinds, AllKinds, VisibleTo}
 use Rattle.trapeze_cli.specs.Exercise.{exercise_text}
 use Rattle.trapeze_cli.specs.Forms.{Show, Run, Trace, View, Form, Check, Play, policy_name, Command, Exercise, OnFiles}
-use Rattle.trapeze_cli.specs.Played.{End, AtEnd, AtBad, PastLimit, played_of}
+use Rattle.trapeze_cli.specs.Played.{FileEnd, AtEnd, AtBad, PastLimit, played_of}
 use Rattle.trapeze_cli.specs.Runs.{Setting, setting_of, text_of, text_heard}
 
 -- the most bytes of a policy file, of a module's, and of an event file
@@ -143,7 +143,7 @@ IsTask (Some (Exercise number)) held task = task ≡ Ok (Says (exercise_text num
 IsTask (Some (OnFiles form)) held task = IsTaskBy held form (policy_in held (policy_name form)) task
 
 -- how a call ends whose playing ends so
-abbrev pub status_at : End → Status
+abbrev pub status_at : FileEnd → Status
 status_at AtEnd = Done
 status_at (AtBad bad) = Events bad
 status_at PastLimit = TooLong events_input
@@ -167,7 +167,7 @@ answer_of held (Ok (Says said)) = record { status = Done; out = said }
 answer_of held (Ok (Plays g events)) = answer_of_file g (held events)
 
 -- what a call answers whose tasks are these
-pub record IsAnswer (tasks : Held → Result Task Status → Type 0) (held : Held) (answer : Answer) : Type 0 where
+pub record IsAnswerOf (tasks : Held → Result Task Status → Type 0) (held : Held) (answer : Answer) : Type 0 where
   pub task : Result Task Status
   pub is_task : tasks held task
   pub answered : answer ≡ answer_of held task

@@ -11,22 +11,22 @@ use Rattle.event_file.specs.declared.entry.Event.TheVariants.{Turn}
 use Rattle.event_file.specs.declared.fault.LineError.{LineError}
 
 -- where the playing of a file ends: at its end, at its first bad line, or past the most bytes that it may have
-pub data End : Type 0 where
-  AtEnd : End
-  AtBad : LineError → End
-  PastLimit : End
+pub data FileEnd : Type 0 where
+  AtEnd : FileEnd
+  AtBad : LineError → FileEnd
+  PastLimit : FileEnd
 
 -- what is played of a file, and where that ends
 pub record Played : Type 0 where
   pub entries : List Entry
-  pub end : End
+  pub end : FileEnd
 
 -- at the bad line, if there is one
-abbrev pub end_at : End → Option LineError → End
+abbrev pub end_at : FileEnd → Option LineError → FileEnd
 end_at end None = end
 end_at end (Some bad) = AtBad bad
 
-abbrev pub up_to : End → Entries → Played
+abbrev pub up_to : FileEnd → Entries → Played
 up_to end read = record { entries = read.entries; end = end_at end read.bad }
 
 -- what is played of a file: all of it; or, where it has more bytes than the limit, the lines that count in the first of them, which are the

@@ -22,7 +22,7 @@ use Rattle.trapeze_cli.specs.declared.halt.Halt.TheVariants.{Write, NoMemory as 
 use Rattle.trapeze_cli.specs.declared.status.Status.{Status}
 use Rattle.trapeze_cli.specs.declared.status.Status.TheVariants.{Done, Events, WriteFault, NoMemory, TooLong}
 use Rattle.trapeze_cli.specs.declared.status.Input.TheVariants.{Policy as policy_input, Module as module_input, Events as events_input}
-use Rattle.trapeze_cli.specs.Played.{End, AtEnd, AtBad, PastLimit, Played, played_of, events_of}
+use Rattle.trapeze_cli.specs.Played.{FileEnd, AtEnd, AtBad, PastLimit, Played, played_of, events_of}
 use Rattle.trapeze_cli.specs.Runs.{Setting, shown_lines, text_of, text_heard}
 use Rattle.trapeze_cli.specs.Command.{events_limit, piece, status_at, Texts}
 use Rattle.trapeze_cli.specs.Appends.{AppendsAll, AppendsPrefix, AppendsLess}
@@ -70,7 +70,7 @@ pub record IsPaced (policy : Parts) (reader : Reader) (played : ℕ) : Type 0 wh
   pub few : played + most_turns * length reader.kept ≤ most_turns * reader.fed
 
 -- the lines of events from a state: with those of the facets where a file is played to its end, and else without
-abbrev pub lines_from : Setting → End → State Thread → List Event → List Line
+abbrev pub lines_from : Setting → FileEnd → State Thread → List Event → List Line
 lines_from g AtEnd s events = whole g.rules g.guest s (items_of events)
 lines_from g (AtBad bad) s events = trace g.rules g.guest s (items_of events)
 lines_from g PastLimit s events = trace g.rules g.guest s (items_of events)
@@ -80,7 +80,7 @@ abbrev pub GivesSome : Option OpenFile → Option OpenFile → Type 0
 GivesSome old new = (bytes : List ℕ) × Gives old new bytes
 
 -- a reader passed lines that say these entries: they come first, whatever bytes follow, be it the end or not
-pub record Passes (old new : Reader) (entries : List Entry) : Type 0 where
+pub record HasPassed (old new : Reader) (entries : List Entry) : Type 0 where
   pub known : new.known ≡ old.known
   pub finished : new.finished ≡ old.finished
   pub fed : new.fed ≡ old.fed
@@ -99,9 +99,9 @@ pub record IsDry (reader : Reader) : Type 0 where
 
 -- the lines kept were passed up to the end, up to a bad line, or up to a halt
 abbrev pub Drains : Reader → Reader → List Entry → Result (Option LineError) Halt → Type 0
-Drains old new entries (Ok None) = Passes old new entries × IsDry new
+Drains old new entries (Ok None) = HasPassed old new entries × IsDry new
 Drains old new entries (Ok (Some bad)) = FailsAt old entries bad
-Drains old new entries (Err halt) = Passes old new entries
+Drains old new entries (Err halt) = HasPassed old new entries
 
 -- lines were drained, and their events played
 pub record PlaysLines (g : Setting) (before now : State Thread → Type 0) (old new : Reader)
@@ -111,7 +111,7 @@ pub record PlaysLines (g : Setting) (before now : State Thread → Type 0) (old 
   pub plays : PlaysOn g before now (events_of entries) result out out_now
 
 -- a reader that was fed these bytes has passed these entries
-pub record Follows (known : Known) (given : List ℕ) (entries : List Entry) (reader : Reader) : Type 0 where
+pub record HasFollowed (known : Known) (given : List ℕ) (entries : List Entry) (reader : Reader) : Type 0 where
   pub knows : reader.known ≡ known
   pub feeding : reader.finished ≡ false
   pub fed : reader.fed ≡ length given
@@ -135,12 +135,12 @@ texts_of g r = record {
 
 -- what a status says of a file that was read so far: how its playing ends, or that no bad line is heard in the bytes given and they are
 -- not too many
-abbrev pub Tells : Setting → OpenFile → Status → Why → Type 0
-Tells g r status Finished = status ≡ status_at (played_in_file g r).end
-Tells g r status Refused = ⊥
-Tells g r status (ReadFailed input) = (input ≡ events_input) × ((heard g.known r.given).bad ≡ None) × (length r.given ≤ events_limit)
-Tells g r status WriteFailed = ⊤
-Tells g r status OutOfMemory = ⊤
+abbrev pub TellsOfFile : Setting → OpenFile → Status → Why → Type 0
+TellsOfFile g r status Finished = status ≡ status_at (played_in_file g r).end
+TellsOfFile g r status Refused = ⊥
+TellsOfFile g r status (ReadFailed input) = (input ≡ events_input) × ((heard g.known r.given).bad ≡ None) × (length r.given ≤ events_limit)
+TellsOfFile g r status WriteFailed = ⊤
+TellsOfFile g r status OutOfMemory = ⊤
 
 -- what was written of its text
 abbrev pub WritesOf : Texts → Why → Option (List ℕ) → Option (List ℕ) → Type 0
@@ -154,7 +154,7 @@ WritesOf t OutOfMemory old new = AppendsPrefix [] t.all old new
 
 -- the answer of the playing of a file
 pub record PlaysFile (g : Setting) (r : OpenFile) (status : Status) (old new : Option (List ℕ)) : Type 0 where
-  pub tells : Tells g r status (why status)
+  pub tells : TellsOfFile g r status (why status)
   pub ended : status ≡ Done → r.rest ≡ []
   pub past : status ≡ TooLong events_input → length r.given ≡ events_limit + 1
   pub stopped : (bad : LineError) → status ≡ Events bad → StopsAt g.known bad r

@@ -19,13 +19,13 @@ use Rattle.trapeze_cli.specs.declared.status.Status.{Status}
 use Rattle.trapeze_cli.specs.declared.status.Status.TheVariants.{Done, Usage, Policy, Module, Events, ReadFault, WriteFault, NoMemory, TooLong}
 use Rattle.trapeze_cli.specs.declared.status.ModuleFault.TheVariants.{Decode, Invalid}
 use Rattle.trapeze_cli.specs.Forms.{Show, Run, Trace, View, Form, Check, Play, Command, Exercise, OnFiles}
-use Rattle.trapeze_cli.specs.Played.{End, Played, played_of, events_of}
+use Rattle.trapeze_cli.specs.Played.{FileEnd, Played, played_of, events_of}
 use Rattle.trapeze_cli.specs.Runs.{Setting, shown_lines, lines_to}
-use Rattle.trapeze_cli.specs.Command.{events_limit, piece, Task, Plays, Says, Answer, IsAnswer, status_at}
+use Rattle.trapeze_cli.specs.Command.{events_limit, piece, Task, Plays, Says, Answer, IsAnswerOf, status_at}
 use Rattle.trapeze_cli.specs.Appends.{AppendsAll}
 
 -- the lines that a setting shows of items, up to an end
-abbrev pub shown_of : Setting → End → List Item → List Line
+abbrev pub shown_of : Setting → FileEnd → List Item → List Line
 shown_of g end items = shown_lines g.rules g.shown (lines_to end g.rules g.guest items)
 
 -- noninterference of a call: what was appended is the text of some lines of which, for each o, those that flow to o are exactly those
@@ -73,7 +73,7 @@ pub record GivesAnswer (answer : Answer) (status : Status) (old new : Option (Li
 
 -- the words and the files say this answer, by the tasks that these are
 abbrev pub IsGiven : (Held → Result Task Status → Type 0) → Held → Status → Option (List ℕ) → Option (List ℕ) → Type 0
-IsGiven tasks held status old new = (answer : Answer) × IsAnswer tasks held answer × GivesAnswer answer status old new
+IsGiven tasks held status old new = (answer : Answer) × IsAnswerOf tasks held answer × GivesAnswer answer status old new
 
 -- the open file was read to its end, and is the one that is held under this name, where these are told
 abbrev pub ReadsAll : Option Held → List ℕ → Option OpenFile → Type 0

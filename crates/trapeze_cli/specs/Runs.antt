@@ -19,7 +19,7 @@ use Rattle.host_rules.specs.Views.{visible}
 use Rattle.trapeze_host.specs.Standing.{known_in}
 use Rattle.trapeze_cli.specs.declared.shown.Shown.{Shown}
 use Rattle.trapeze_cli.specs.declared.shown.Shown.TheVariants.{RunKinds, AllKinds, VisibleTo}
-use Rattle.trapeze_cli.specs.Played.{End, AtEnd, AtBad, PastLimit, Played, events_of}
+use Rattle.trapeze_cli.specs.Played.{FileEnd, AtEnd, AtBad, PastLimit, Played, events_of}
 
 -- what events are played on: the names that they may use, the rules of the policy, the guest of its functions' modules; and which lines
 -- are shown
@@ -47,7 +47,7 @@ IsShownTo labels AllKinds = ⊤
 IsShownTo labels (VisibleTo label) = label.number < labels
 
 -- the lines of items from an empty store: with those of the facets where a file is played to its end, and else without
-abbrev pub lines_to : End → Rules → Guest Thread → List Item → List Line
+abbrev pub lines_to : FileEnd → Rules → Guest Thread → List Item → List Line
 lines_to AtEnd P M items = whole P M (start []) items
 lines_to (AtBad bad) P M items = trace P M (start []) items
 lines_to PastLimit P M items = trace P M (start []) items

@@ -5,7 +5,7 @@ use Rattle.trapeze_cli.specs.declared.status.Status.{Status}
 use Rattle.trapeze_cli.specs.declared.status.Status.TheVariants.{Done, Usage, Policy, Module, Events, ReadFault, WriteFault, NoMemory, TooLong}
 use Rattle.trapeze_cli.specs.declared.status.Input.{Input}
 use Rattle.trapeze_cli.specs.declared.status.Input.TheVariants.{Policy as policy_input, Module as module_input, Events as events_input}
-use Rattle.trapeze_cli.specs.Command.{Task, Answer, IsAnswer, Texts, texts_by}
+use Rattle.trapeze_cli.specs.Command.{Task, Answer, IsAnswerOf, Texts, texts_by}
 use Rattle.trapeze_cli.specs.Appends.{AppendsAll, AppendsPrefix, AppendsLess}
 
 -- the task was done, for a file of events up to its end, to a bad line or past its limit; the words or another file were refused; a read
@@ -32,7 +32,7 @@ why (TooLong events_input) = Finished
 
 -- the status is the one that the words and the files say, by the tasks that these are
 abbrev pub IsSaid : (Held → Result Task Status → Type 0) → Held → Status → Type 0
-IsSaid tasks held status = (answer : Answer) × IsAnswer tasks held answer × (status ≡ answer.status)
+IsSaid tasks held status = (answer : Answer) × IsAnswerOf tasks held answer × (status ≡ answer.status)
 
 -- so it is where it tells that the task was done or something was refused
 abbrev pub IsAnswered : (Held → Result Task Status → Type 0) → Option Held → Why → Status → Type 0

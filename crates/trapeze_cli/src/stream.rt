@@ -75,7 +75,7 @@ fn play_end<T: Facets, S: Sink>(
         (said_of (setting_of scene.now.policy.now (modules_lent host.old) scene.now.shown)
         (lines_from (setting_of scene.now.policy.now (modules_lent host.old) scene.now.shown)
         (end_at AtEnd (entries_with reader.old []).bad) s (events_of (entries_with reader.old []).entries)))
-            (S.written out.old) (S.written out.new) }
+        (S.written out.old) (S.written out.new) }
     ensures counts { CountsWrites result (S.faults out.old) (S.faults out.new) }
 {
     match reader.finish() {

@@ -13,7 +13,7 @@ use Rattle.sandbox.specs.declared.sandboxes.Sandbox.{Sandbox}
 use Rattle.sandbox.specs.declared.going.Going.{Going}
 use Rattle.sandbox.specs.declared.going.Going.TheVariants as going
 use Rattle.sandbox.specs.Threads.{thread_of, waiting, asked_of}
-use Rattle.sandbox.specs.Going.{Asks, Ends}
+use Rattle.sandbox.specs.Going.{Asks, EndsAs}
 use Rattle.shim_calls.specs.Performing.{asked_in}
 use Rattle.host_rules.specs.Rules.{Rules, limits_at}
 use Rattle.host_rules.specs.States.{Activation, State}
@@ -77,14 +77,14 @@ asks_some m pages (suc n) used t suspended none some asks = omega (arith, some (
 -- the same of the run of an activation, by how the engine's run ended
 module _ (law : GoesByRuns) (loan : Loan) (r : Run) (before : Option Thread) (left used : ℕ) (limits : Limits) (program : Module) (sandbox : Sandbox) (how : Going)
     (own : program ≡ module_in loan r.function) (limit : limits ≡ limits_at (rules_in loan) r.at.number)
-    (ends : Ends program (units program limits.pages (thread_of program sandbox) left) used how) where
+    (ends : EndsAs program (units program limits.pages (thread_of program sandbox) left) used how) where
   m : Module
   m = module_in loan r.function
 
-  ended : (x : Going) → how ≡ x → Ends m (units m limits.pages (thread_of m sandbox) left) used x
+  ended : (x : Going) → how ≡ x → EndsAs m (units m limits.pages (thread_of m sandbox) left) used x
   unfolding m
-  ended x e = subst (λ (m : Module). Ends m (units m limits.pages (thread_of m sandbox) left) used x) own
-      (subst (λ (x : Going). Ends program (units program limits.pages (thread_of program sandbox) left) used x) e ends)
+  ended x e = subst (λ (m : Module). EndsAs m (units m limits.pages (thread_of m sandbox) left) used x) own
+      (subst (λ (x : Going). EndsAs program (units program limits.pages (thread_of program sandbox) left) used x) e ends)
 
   abbrev pub stint_here : State Thread → Stint Thread
   stint_here s = stint (rules_in loan) (guest_in loan) r.at.number (run_of before r) left (thread_of (module_in loan r.function) sandbox) s

@@ -16,7 +16,7 @@ use Rattle.host_rules.specs.States.{State, Moved}
 use Rattle.host_rules.specs.Stores.{facet_line, facet_lines}
 use Rattle.trapeze_host.specs.Adding.{Adds, KeepsLabelled}
 use Rattle.trapeze_host.specs.Loans.{known_in}
-use Rattle.trapeze_host.specs.Keeping.{HostParts, IsHeld, Keeps, Made, Makes, AreFew, AreCounted}
+use Rattle.trapeze_host.specs.Keeping.{HostParts, IsHeld, Keeps, Made, Makes, MayBeRaised, AreCounted}
 use Rattle.trapeze_host.specs.Standing.{policy_lent, modules_lent, is_spent, played_in, Stands, Plays, Moves}
 
 module _ {F : Type 0} (h : HostParts F) where
@@ -66,7 +66,7 @@ module _ {F : Type 0} (x h : HostParts F) (e : x ≡ h) where
   played_inside = played_is h ∙ ap (λ (h : HostParts F). h.played) (sym e)
 
   -- no number is too high to be raised
-  pub few_inside : (limits : F → List Limits) → IsHeld limits x → is_spent h ≡ false → played_in h < 2 ^ 62 → AreFew x.kept
+  pub few_inside : (limits : F → List Limits) → IsHeld limits x → is_spent h ≡ false → played_in h < 2 ^ 62 → MayBeRaised x.kept
   few_inside limits held unspent few =
       let counted : AreCounted x.played x.kept = held.counted (sym spent_inside ∙ unspent) in
       record {

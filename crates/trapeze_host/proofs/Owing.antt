@@ -15,7 +15,7 @@ use Rattle.sandbox.specs.declared.suspended.Suspended.{Suspended}
 use Rattle.sandbox.specs.declared.going.Going.{Going}
 use Rattle.sandbox.specs.declared.going.Going.TheVariants as going
 use Rattle.sandbox.specs.Threads.{thread_of}
-use Rattle.sandbox.specs.Going.{Ends}
+use Rattle.sandbox.specs.Going.{EndsAs}
 use Rattle.host_rules.specs.Rules.{limits_at}
 use Rattle.host_rules.specs.States.{State}
 use Rattle.host_rules.specs.Modules.{cause_of}
@@ -37,7 +37,7 @@ use Rattle.trapeze_host.proofs.EngineRuns.{here_spent, here_done, here_trapped, 
 -- of a stint of so many units a part is done, and the engine has run once more
 module _ {F : Type 0} (rows : F → Rows) (law : GoesByRuns) (loan : Loan) (r : Run) (before : Option Thread) (first : Sandbox) (s : State Thread) (k : Kept F) (lines between : List Line) (whole given : ℕ) (whole_is : whole ≡ given)
     (left used : ℕ) (limits : Limits) (program : Module) (sandbox : Sandbox) (how : Going) (own : program ≡ module_in loan r.function) (limit : limits ≡ limits_at (rules_in loan) r.at.number)
-    (ends : Ends program (units program limits.pages (thread_of program sandbox) left) used how) (o : Owes rows loan (run_stint loan r before whole first s) k lines between (run_stint loan r before left sandbox)) where
+    (ends : EndsAs program (units program limits.pages (thread_of program sandbox) left) used how) (o : Owes rows loan (run_stint loan r before whole first s) k lines between (run_stint loan r before left sandbox)) where
   stopped : (end : End Thread) → run_stint loan r before left sandbox o.done.state ≡ stops o.done.state end → Owes rows loan (run_stint loan r before given first s) k lines between (ends_so end)
   stopped end e = subst (λ (n : ℕ). Owes rows loan (run_stint loan r before n first s) k lines between (ends_so end)) whole_is
       (owes_then rows loan (run_stint loan r before whole first s) (stops o.done.state end) k k lines between between (run_stint loan r before left sandbox) (ends_so end) o e (owes_end rows loan k o.done.state between end o.keeps))

@@ -31,7 +31,7 @@ use Rattle.trapeze_host.specs.declared.requests.Requests.{Requests}
 use Rattle.trapeze_host.specs.declared.kept.Kept.{Kept}
 use Rattle.trapeze_host.specs.Loans.{Loan, rules_in, guest_in, module_in}
 use Rattle.trapeze_host.specs.Keeping.{activation_of, state_of, Keeps, Makes, IsFitActivation, IsSound}
-use Rattle.trapeze_host.specs.Turning.{Owes, ends_so, GoesOn, IsRun}
+use Rattle.trapeze_host.specs.Turning.{Owes, ends_so, GoesOnWith, IsRun}
 use Rattle.trapeze_host.proofs.SetPlaces.{set_table}
 use Rattle.trapeze_host.proofs.Keeping.{for_state, then_makes, keeps_list, list_here}
 use Rattle.trapeze_host.proofs.SoundLists.{sound_list}
@@ -52,22 +52,22 @@ given_is P c a limits n left e f h = h ∙ (ap (min limits.quantum) f ∙ ap (λ
 
 -- the thread of the front: its own, or the starting one
 pub thread_goes : (loan : Loan) (c number f : ℕ) (a : rules.Activation Thread) (s : State Thread) (o : Option Thread) (b : Begun) (sandbox : Sandbox) → a.function ≡ f → b ≡ begun.Ready sandbox
-    → GoesOn (module_in loan f) (limits_at (rules_in loan) c).pages o b → run_from (rules_in loan) (guest_in loan) c number a o s ≡ run (rules_in loan) (guest_in loan) c number a (thread_of (module_in loan f) sandbox) s
+    → GoesOnWith (module_in loan f) (limits_at (rules_in loan) c).pages o b → run_from (rules_in loan) (guest_in loan) c number a o s ≡ run (rules_in loan) (guest_in loan) c number a (thread_of (module_in loan f) sandbox) s
 thread_goes loan c number f a s (Some t) b sandbox is e h =
-    let k : (thread_of (module_in loan f) sandbox ≡ t) × IsReady (module_in loan f) sandbox = subst (GoesOn (module_in loan f) (limits_at (rules_in loan) c).pages (Some t)) e h in
+    let k : (thread_of (module_in loan f) sandbox ≡ t) × IsReady (module_in loan f) sandbox = subst (GoesOnWith (module_in loan f) (limits_at (rules_in loan) c).pages (Some t)) e h in
     ap (λ (t : Thread). run (rules_in loan) (guest_in loan) c number a t s) (sym k.0)
 thread_goes loan c number f a s None b sandbox is e h =
     let k : (first_pages (module_in loan f) ≤ (limits_at (rules_in loan) c).pages) × (thread_of (module_in loan f) sandbox ≡ begin (module_in loan f)) × IsReady (module_in loan f) sandbox =
-    subst (GoesOn (module_in loan f) (limits_at (rules_in loan) c).pages None) e h in
+    subst (GoesOnWith (module_in loan f) (limits_at (rules_in loan) c).pages None) e h in
     ap (λ (f : ℕ). cond {A = Moved Thread} (nat_le (first_pages (module_in loan f)) (limits_at (rules_in loan) c).pages) (run (rules_in loan) (guest_in loan) c number a (begin (module_in loan f)) s) (closing (rules_in loan) c number a 0 (Trapped Pages) s)) is
     ∙ ap (λ (b : Bool). cond {A = Moved Thread} b (run (rules_in loan) (guest_in loan) c number a (begin (module_in loan f)) s) (closing (rules_in loan) c number a 0 (Trapped Pages) s)) (le-leb _ _ k.0)
     ∙ ap (λ (t : Thread). run (rules_in loan) (guest_in loan) c number a t s) (sym k.1)
 
 pub thread_pages : (loan : Loan) (c number f : ℕ) (a : rules.Activation Thread) (s : State Thread) (o : Option Thread) (b : Begun) → a.function ≡ f → b ≡ begun.Pages
-    → GoesOn (module_in loan f) (limits_at (rules_in loan) c).pages o b → run_from (rules_in loan) (guest_in loan) c number a o s ≡ closing (rules_in loan) c number a 0 (Trapped Pages) s
-thread_pages loan c number f a s (Some t) b is e h = absurd (subst (GoesOn (module_in loan f) (limits_at (rules_in loan) c).pages (Some t)) e h)
+    → GoesOnWith (module_in loan f) (limits_at (rules_in loan) c).pages o b → run_from (rules_in loan) (guest_in loan) c number a o s ≡ closing (rules_in loan) c number a 0 (Trapped Pages) s
+thread_pages loan c number f a s (Some t) b is e h = absurd (subst (GoesOnWith (module_in loan f) (limits_at (rules_in loan) c).pages (Some t)) e h)
 thread_pages loan c number f a s None b is e h =
-    let k : (limits_at (rules_in loan) c).pages < first_pages (module_in loan f) = subst (GoesOn (module_in loan f) (limits_at (rules_in loan) c).pages None) e h in
+    let k : (limits_at (rules_in loan) c).pages < first_pages (module_in loan f) = subst (GoesOnWith (module_in loan f) (limits_at (rules_in loan) c).pages None) e h in
     ap (λ (f : ℕ). cond {A = Moved Thread} (nat_le (first_pages (module_in loan f)) (limits_at (rules_in loan) c).pages) (run (rules_in loan) (guest_in loan) c number a (begin (module_in loan f)) s) (closing (rules_in loan) c number a 0 (Trapped Pages) s)) is
     ∙ ap (λ (b : Bool). cond {A = Moved Thread} b (run (rules_in loan) (guest_in loan) c number a (begin (module_in loan f)) s) (closing (rules_in loan) c number a 0 (Trapped Pages) s)) (lt-leb _ _ k)
 
@@ -123,7 +123,7 @@ module _ {F : Type 0} (rows : F → Rows) (loan : Loan) (k : Kept F) (queues : L
   front_turns number = ap (λ (xs : List (rules.Activation Thread)). turn_of (rules_in loan) (guest_in loan) l number xs s) list_is
 
   module _ (law : IsIndifferent (rules_in loan) (guest_in loan)) (number : ℕ) (b : Begun)
-      (goes : GoesOn (module_in loan front.function) (limits_at (rules_in loan) l).pages (option_map (thread_of (module_in loan front.function)) front.sandbox) b) where
+      (goes : GoesOnWith (module_in loan front.function) (limits_at (rules_in loan) l).pages (option_map (thread_of (module_in loan front.function)) front.sandbox) b) where
     pub turn_runs : (sandbox : Sandbox) → b ≡ begun.Ready sandbox → turn_of (rules_in loan) (guest_in loan) l number (s.lists l) s
         ≡ run (rules_in loan) (guest_in loan) l number (activation_of loan front) (thread_of (module_in loan front.function) sandbox) husked
     turn_runs sandbox e = front_turns number

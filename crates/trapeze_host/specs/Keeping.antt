@@ -118,7 +118,7 @@ pub record RaisesNumbers {F : Type 0} (before after : Kept F) : Type 0 where
   pub requests : (l : ℕ) → taken_of after.requests l ≤ taken_of before.requests l + 1
 
 -- turn and request numbers may be raised
-pub record AreFew {F : Type 0} (k : Kept F) : Type 0 where
+pub record MayBeRaised {F : Type 0} (k : Kept F) : Type 0 where
   pub turns : (l : ℕ) → slice_index k.turns.items l < 2 ^ 62
   pub requests : (l : ℕ) → taken_of k.requests l < 2 ^ 62
 

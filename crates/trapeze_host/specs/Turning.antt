@@ -146,17 +146,17 @@ LeadsOn rows loan m rest whole k before after (Ok (reached.Ends end)) =
 LeadsOn rows loan m rest whole k before after (Err e) = AddsPart whole.moved.lines before after
 
 -- after a whole stint
-abbrev pub Finishes :
+abbrev pub FinishesStint :
     {F : Type 0} → (F → Rows) → Loan → Module → turns.Stint Thread → Kept F → List Line → List Line
     → Result Ending NoMemory → Type 0
-Finishes rows loan m whole k before after (Ok end) =
+FinishesStint rows loan m whole k before after (Ok end) =
     Owes rows loan whole k before after (ends_so (end_of m end))
-Finishes rows loan m whole k before after (Err e) = AddsPart whole.moved.lines before after
+FinishesStint rows loan m whole k before after (Err e) = AddsPart whole.moved.lines before after
 
 -- the thread that an activation goes on with: its own, or the starting one, where the label allows its memory
-abbrev pub GoesOn : Module → ℕ → Option Thread → Begun → Type 0
-GoesOn m pages None (begun.Ready sandbox) =
+abbrev pub GoesOnWith : Module → ℕ → Option Thread → Begun → Type 0
+GoesOnWith m pages None (begun.Ready sandbox) =
     (first_pages m ≤ pages) × (thread_of m sandbox ≡ begin m) × IsReady m sandbox
-GoesOn m pages None begun.Pages = pages < first_pages m
-GoesOn m pages (Some t) (begun.Ready sandbox) = (thread_of m sandbox ≡ t) × IsReady m sandbox
-GoesOn m pages (Some t) begun.Pages = ⊥
+GoesOnWith m pages None begun.Pages = pages < first_pages m
+GoesOnWith m pages (Some t) (begun.Ready sandbox) = (thread_of m sandbox ≡ t) × IsReady m sandbox
+GoesOnWith m pages (Some t) begun.Pages = ⊥

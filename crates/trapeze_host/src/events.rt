@@ -6,7 +6,7 @@ ghost use Rattle.host_rules.specs.States.{Happens};
 ghost use Rattle.host_rules.specs.Play.{step};
 ghost use Rattle.trapeze_host.specs.Adding.{KeepsLabelled};
 ghost use Rattle.trapeze_host.specs.Loans.{known_in, rules_in, guest_in};
-ghost use Rattle.trapeze_host.specs.Keeping.{MakesFrom, IsSound, AreFew, RaisesNumbers};
+ghost use Rattle.trapeze_host.specs.Keeping.{MakesFrom, IsSound, MayBeRaised, RaisesNumbers};
 
 use crate::kept::Kept;
 use crate::lent::Lent;
@@ -24,7 +24,7 @@ impl<F: Facets> Kept<F> {
         lines: &mut Lines,
     ) -> Result<(), NoMemory>
         requires sound { IsSound F.limits lent.now self.old }
-        requires few { AreFew self.old }
+        requires few { MayBeRaised self.old }
         requires event { IsFit (known_in lent.now.policy) event.now }
         ensures moved { MakesFrom F.rows lent.now result self.old self.new lines.old lines.new
             (λ s. step (rules_in lent.now) (guest_in lent.now) s (Happens event.now)) }

@@ -12,7 +12,7 @@ ghost use Rattle.host_rules.specs.Turns.{turn as turned};
 ghost use Rattle.trapeze_host.specs.Adding.{KeepsLabelled};
 ghost use Rattle.trapeze_host.specs.Loans.{rules_in, guest_in, module_in};
 ghost use Rattle.trapeze_host.specs.Keeping.{MakesFrom, IsSound, HasSameNumbers, RaisesNumbers};
-ghost use Rattle.trapeze_host.specs.Turning.{run_turns, turn_of_front, IsRun, GoesOn};
+ghost use Rattle.trapeze_host.specs.Turning.{run_turns, turn_of_front, IsRun, GoesOnWith};
 
 use crate::kept::{Activation, Kept};
 use crate::lent::Lent;
@@ -58,7 +58,7 @@ fn begin(
     requires function { function < length lent.now.policy.functions }
     requires ready { ForSome sandbox (IsReady (module_in lent.now function)) }
     ensures { IfOk result
-        (GoesOn (module_in lent.now function) (limits_at (rules_in lent.now) at.number).pages
+        (GoesOnWith (module_in lent.now function) (limits_at (rules_in lent.now) at.number).pages
         (option_map (thread_of (module_in lent.now function)) sandbox)) }
 {
     match sandbox {

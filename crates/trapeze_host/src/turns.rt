@@ -9,7 +9,7 @@ ghost use Rattle.host_rules.specs.Turns.{Stint};
 ghost use Rattle.trapeze_host.specs.Adding.{KeepsLabelled};
 ghost use Rattle.trapeze_host.specs.Loans.{module_in};
 ghost use Rattle.trapeze_host.specs.Keeping.{Keeps, IsSound, HasSameNumbers, KeepsMembers};
-ghost use Rattle.trapeze_host.specs.Turning.{run_calls, run_stint, IsRun, LeadsOn, Finishes};
+ghost use Rattle.trapeze_host.specs.Turning.{run_calls, run_stint, IsRun, LeadsOn, FinishesStint};
 ghost use Rattle.trapeze_host.specs.Turning.{IsFitEnd, IsFitReached};
 
 use crate::causes::{cause_of_call, cause_of_unit};
@@ -81,7 +81,7 @@ impl<F: Facets> Kept<F> {
         requires run { IsRun lent.now self.old.requests run.now }
         requires ready { IsReady (module_in lent.now run.now.function) sandbox }
         ensures finished { (before : Option Thread) (s : State Thread) →
-            Keeps F.rows lent.now self.old s → Finishes F.rows lent.now (module_in lent.now run.now.function)
+            Keeps F.rows lent.now self.old s → FinishesStint F.rows lent.now (module_in lent.now run.now.function)
             (run_stint lent.now run.now before given sandbox s) self.new lines.old lines.new result }
         ensures fit { IfOk result
             (IsFitEnd (module_in lent.now run.now.function) (count lent.now.policy.lattice)) }

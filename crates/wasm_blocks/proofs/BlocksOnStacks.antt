@@ -13,7 +13,7 @@ use Rattle.wasm_data.proofs.Arrays.{length_operands}
 use Rattle.wasm_blocks.specs.declared.open.Open.{Open}
 use Rattle.wasm_blocks.specs.declared.hot.Hot.{Hot}
 use Rattle.wasm_blocks.specs.Levels.{Around, rest_of, values_in, spot_in, IsTower, HasKept}
-use Rattle.wasm_blocks.specs.Runs.{Outer, own_nexts, place, Stands, GoesOn}
+use Rattle.wasm_blocks.specs.Runs.{Outer, own_nexts, place, StandsInArray, GoesOnAnywhere}
 use Rattle.wasm_blocks.specs.Rest.{Placed, part_of}
 use Rattle.wasm_blocks.proofs.Cuts.{length_above}
 use Rattle.wasm_blocks.proofs.Levels.{enter_goes, leave_goes, branch_goes, tower_at}
@@ -31,8 +31,8 @@ abbrev pub hot_with : Hot → Bor (List Instr) → Marks → Hot
 hot_with hot code marks = record { code = code; marks = marks; low = hot.low }
 
 entered : (hot : Hot) (values : List ℕ) (os : List Open) (ns : List (Bor (List Instr))) (code next : Bor (List Instr)) (o : Open)
-    → Stands hot values os ns → rest_of o.loops next.now ≡ hot.code.now → o.height ≡ hot.marks.sp - hot.marks.floor
-    → GoesOn (λ a. let p = place a hot values os ns in enter p p.level.values code.now (truth o.keeps) next.now) hot (hot_with hot code hot.marks) values values os (o ∷ os) ns (next ∷ ns)
+    → StandsInArray hot values os ns → rest_of o.loops next.now ≡ hot.code.now → o.height ≡ hot.marks.sp - hot.marks.floor
+    → GoesOnAnywhere (λ a. let p = place a hot values os ns in enter p p.level.values code.now (truth o.keeps) next.now) hot (hot_with hot code hot.marks) values values os (o ∷ os) ns (next ∷ ns)
 entered hot values os ns code next o st r h =
     let m = hot.marks in
     let low = hot.low in
@@ -58,12 +58,12 @@ entered hot values os ns code next o st r h =
     }
 
 pub enter_runs : (hot : Hot) (values : List ℕ) (os os' : List Open) (ns ns' : List (Bor (List Instr))) (code next : Bor (List Instr)) (o : Open)
-    → Stands hot values os ns → rest_of o.loops next.now ≡ hot.code.now → o.height ≡ hot.marks.sp - hot.marks.floor → os' ≡ o ∷ os → ns' ≡ next ∷ ns
-    → GoesOn (λ a. let p = place a hot values os ns in enter p p.level.values code.now (truth o.keeps) next.now) hot (hot_with hot code hot.marks) values values os os' ns ns'
+    → StandsInArray hot values os ns → rest_of o.loops next.now ≡ hot.code.now → o.height ≡ hot.marks.sp - hot.marks.floor → os' ≡ o ∷ os → ns' ≡ next ∷ ns
+    → GoesOnAnywhere (λ a. let p = place a hot values os ns in enter p p.level.values code.now (truth o.keeps) next.now) hot (hot_with hot code hot.marks) values values os os' ns ns'
 enter_runs hot values os os' ns ns' code next o st r h e e' =
     let out = λ (a : Outer). let p = place a hot values os ns in enter p p.level.values code.now (truth o.keeps) next.now in
-    let P : List Open → Type 0 = λ xs. GoesOn out hot (hot_with hot code hot.marks) values values os xs ns ns' in
-    let Q : List (Bor (List Instr)) → Type 0 = λ xs. GoesOn out hot (hot_with hot code hot.marks) values values os (o ∷ os) ns xs in
+    let P : List Open → Type 0 = λ xs. GoesOnAnywhere out hot (hot_with hot code hot.marks) values values os xs ns ns' in
+    let Q : List (Bor (List Instr)) → Type 0 = λ xs. GoesOnAnywhere out hot (hot_with hot code hot.marks) values values os (o ∷ os) ns xs in
     subst P (sym e) (subst Q (sym e') (entered hot values os ns code next o st r h))
 
 pub enter_placed : (body : List Instr) (i : Instr) (hot : Hot) (os os' : List Open) (ns ns' : List (Bor (List Instr))) (code : List Instr) (next : Bor (List Instr)) (o : Open)
@@ -78,8 +78,8 @@ enter_placed body i hot os os' ns ns' code next o le p n h c e e' =
     subst P (sym opens_now) (subst Q (sym nexts_now) (placed_enter body i hot.code.now code (own_nexts low os ns) (above low os) o next.now p n h c))
 
 left : (hot : Hot) (values : List ℕ) (os : List Open) (ns : List (Bor (List Instr))) (code next : Bor (List Instr)) (o : Open)
-    → Stands hot values (o ∷ os) (next ∷ ns) → hot.low ≤ length os → code.now ≡ rest_of o.loops next.now
-    → GoesOn (λ a. leave (place a hot values (o ∷ os) (next ∷ ns))) hot (hot_with hot code hot.marks) values values (o ∷ os) os (next ∷ ns) ns
+    → StandsInArray hot values (o ∷ os) (next ∷ ns) → hot.low ≤ length os → code.now ≡ rest_of o.loops next.now
+    → GoesOnAnywhere (λ a. leave (place a hot values (o ∷ os) (next ∷ ns))) hot (hot_with hot code hot.marks) values values (o ∷ os) os (next ∷ ns) ns
 left hot values os ns code next o st le r =
     let m = hot.marks in
     let low = hot.low in
@@ -109,12 +109,12 @@ left hot values os ns code next o st le r =
     }
 
 pub leave_runs : (hot : Hot) (values : List ℕ) (os os' : List Open) (ns ns' : List (Bor (List Instr))) (code next : Bor (List Instr)) (o : Open)
-    → Stands hot values os ns → hot.low < length os → code.now ≡ rest_of o.loops next.now → os ≡ o ∷ os' → ns ≡ next ∷ ns'
-    → GoesOn (λ a. leave (place a hot values os ns)) hot (hot_with hot code hot.marks) values values os os' ns ns'
+    → StandsInArray hot values os ns → hot.low < length os → code.now ≡ rest_of o.loops next.now → os ≡ o ∷ os' → ns ≡ next ∷ ns'
+    → GoesOnAnywhere (λ a. leave (place a hot values os ns)) hot (hot_with hot code hot.marks) values values os os' ns ns'
 leave_runs hot values os os' ns ns' code next o st lt r e e' =
-    let P : List Open → Type 0 = λ xs. Stands hot values xs ns → GoesOn (λ a. leave (place a hot values xs ns)) hot (hot_with hot code hot.marks) values values xs os' ns ns' in
-    let Q : List (Bor (List Instr)) → Type 0 = λ xs. Stands hot values (o ∷ os') xs
-    → GoesOn (λ a. leave (place a hot values (o ∷ os') xs)) hot (hot_with hot code hot.marks) values values (o ∷ os') os' xs ns' in
+    let P : List Open → Type 0 = λ xs. StandsInArray hot values xs ns → GoesOnAnywhere (λ a. leave (place a hot values xs ns)) hot (hot_with hot code hot.marks) values values xs os' ns ns' in
+    let Q : List (Bor (List Instr)) → Type 0 = λ xs. StandsInArray hot values (o ∷ os') xs
+    → GoesOnAnywhere (λ a. leave (place a hot values (o ∷ os') xs)) hot (hot_with hot code hot.marks) values values (o ∷ os') os' xs ns' in
     subst P (sym e) (subst Q (sym e') (λ st. left hot values os' ns' code next o st (omega (arith, lt, ap length e)) r)) st
 
 pub leave_placed : (body : List Instr) (hot : Hot) (os os' : List Open) (ns ns' : List (Bor (List Instr))) (code next : Bor (List Instr)) (o : Open)
@@ -144,7 +144,7 @@ tower_drop zero (p ∷ os) h o t e = let same : p ≡ o = cc in subst (λ (x : O
 tower_drop (suc n) (p ∷ os) h o t e = tower_drop n os p.height o t.1 e
 
 -- the room of a branch
-pub branch_room : (hot : Hot) (values : List ℕ) (os : List Open) (ns : List (Bor (List Instr))) (n : ℕ) (o : Open) → Stands hot values os ns → n + hot.low < length os → slice_get os n ≡ Some o
+pub branch_room : (hot : Hot) (values : List ℕ) (os : List Open) (ns : List (Bor (List Instr))) (n : ℕ) (o : Open) → StandsInArray hot values os ns → n + hot.low < length os → slice_get os n ≡ Some o
     → HasKept (above hot.low os) n (operands_in hot.marks.floor hot.marks.sp values) → hot.marks.floor + o.height + truth o.keeps ≤ hot.marks.sp
 branch_room hot values os ns n o st lt e kept =
     let m = hot.marks in
@@ -155,11 +155,11 @@ branch_room hot values os ns n o st lt e kept =
     omega (arith, room, size, st.within.operands)
 
 branched : (hot : Hot) (values values' : List ℕ) (os : List Open) (ns : List (Bor (List Instr))) (n sp : ℕ) (next : Bor (List Instr)) (o : Open)
-    → Stands hot values os ns → n + hot.low < length os → slice_get os n ≡ Some o → slice_get ns n ≡ Some next → HasKept (above hot.low os) n (operands_in hot.marks.floor hot.marks.sp values)
+    → StandsInArray hot values os ns → n + hot.low < length os → slice_get os n ≡ Some o → slice_get ns n ≡ Some next → HasKept (above hot.low os) n (operands_in hot.marks.floor hot.marks.sp values)
     → sp ≡ hot.marks.floor + o.height + truth o.keeps → length values' ≡ length values
     → operands_in hot.marks.floor sp values' ≡ take (truth o.keeps) (operands_in hot.marks.floor hot.marks.sp values) ++ under o.height (operands_in hot.marks.floor hot.marks.sp values)
     → locals_in hot.marks.base hot.marks.floor values' ≡ locals_in hot.marks.base hot.marks.floor values → take hot.marks.base values' ≡ take hot.marks.base values
-    → GoesOn (λ a. let p = place a hot values os ns in branch_at p n p.level.values) hot (hot_with hot next (raised hot.marks sp)) values values' os (drop (suc n) os) ns (drop (suc n) ns)
+    → GoesOnAnywhere (λ a. let p = place a hot values os ns in branch_at p n p.level.values) hot (hot_with hot next (raised hot.marks sp)) values values' os (drop (suc n) os) ns (drop (suc n) ns)
 branched hot values values' os ns n sp next o st lt at at' kept s size ops_now locals_now deep_now =
     let m = hot.marks in
     let low = hot.low in
@@ -197,17 +197,17 @@ branched hot values values' os ns n sp next o st lt at at' kept s size ops_now l
     }
 
 pub branch_runs : (hot : Hot) (values values' : List ℕ) (os os' : List Open) (ns ns' : List (Bor (List Instr))) (n : ℕ) (marks : Marks) (next : Bor (List Instr)) (o : Open) (sp : ℕ)
-    → Stands hot values os ns → n + hot.low < length os → slice_get os n ≡ Some o → slice_get ns n ≡ Some next → HasKept (above hot.low os) n (operands_in hot.marks.floor hot.marks.sp values)
+    → StandsInArray hot values os ns → n + hot.low < length os → slice_get os n ≡ Some o → slice_get ns n ≡ Some next → HasKept (above hot.low os) n (operands_in hot.marks.floor hot.marks.sp values)
     → sp ≡ hot.marks.floor + o.height + truth o.keeps → length values' ≡ length values
     → operands_in hot.marks.floor sp values' ≡ take (truth o.keeps) (operands_in hot.marks.floor hot.marks.sp values) ++ under o.height (operands_in hot.marks.floor hot.marks.sp values)
     → locals_in hot.marks.base hot.marks.floor values' ≡ locals_in hot.marks.base hot.marks.floor values → take hot.marks.base values' ≡ take hot.marks.base values
     → os' ≡ drop (suc n) os → ns' ≡ drop (suc n) ns → marks ≡ raised hot.marks sp
-    → GoesOn (λ a. let p = place a hot values os ns in branch_at p n p.level.values) hot (hot_with hot next marks) values values' os os' ns ns'
+    → GoesOnAnywhere (λ a. let p = place a hot values os ns in branch_at p n p.level.values) hot (hot_with hot next marks) values values' os os' ns ns'
 branch_runs hot values values' os os' ns ns' n marks next o sp st lt at at' kept s size ops_now locals_now deep_now e e' q =
     let out = λ (a : Outer). let p = place a hot values os ns in branch_at p n p.level.values in
-    let P : List Open → Type 0 = λ xs. GoesOn out hot (hot_with hot next marks) values values' os xs ns ns' in
-    let Q : List (Bor (List Instr)) → Type 0 = λ xs. GoesOn out hot (hot_with hot next marks) values values' os (drop (suc n) os) ns xs in
-    let R : Marks → Type 0 = λ m. GoesOn out hot (hot_with hot next m) values values' os (drop (suc n) os) ns (drop (suc n) ns) in
+    let P : List Open → Type 0 = λ xs. GoesOnAnywhere out hot (hot_with hot next marks) values values' os xs ns ns' in
+    let Q : List (Bor (List Instr)) → Type 0 = λ xs. GoesOnAnywhere out hot (hot_with hot next marks) values values' os (drop (suc n) os) ns xs in
+    let R : Marks → Type 0 = λ m. GoesOnAnywhere out hot (hot_with hot next m) values values' os (drop (suc n) os) ns (drop (suc n) ns) in
     subst P (sym e) (subst Q (sym e') (subst R (sym q) (branched hot values values' os ns n sp next o st lt at at' kept s size ops_now locals_now deep_now)))
 
 pub branch_placed : (body : List Instr) (hot : Hot) (os os' : List Open) (ns ns' : List (Bor (List Instr))) (n : ℕ) (next : Bor (List Instr))

@@ -5,7 +5,7 @@ use Rattle.wasm_ast.specs.declared.trees.Instr.{Instr}
 use Rattle.wasm_semantics.specs.Threads.{Store, Frame, Outcome, Goes}
 use Rattle.wasm_semantics.specs.Control.{Spot, thread_at}
 use Rattle.wasm_data.specs.Cuts.{above, under}
-use Rattle.wasm_data.specs.Marked.{IsWithin, locals_in, operands_in}
+use Rattle.wasm_data.specs.Marked.{AreInArray, locals_in, operands_in}
 use Rattle.wasm_blocks.specs.declared.open.Open.{Open}
 use Rattle.wasm_blocks.specs.declared.hot.Hot.{Hot}
 use Rattle.wasm_blocks.specs.Levels.{spot_in, IsTower}
@@ -28,17 +28,17 @@ place a hot values opens nexts =
     (own_nexts hot.low opens nexts) (above hot.low opens) (operands_in hot.marks.floor hot.marks.sp values)
 
 -- the frame lies within the array, and its blocks on top of both stacks
-pub record Stands (hot : Hot) (values : List ℕ) (opens : List Open) (nexts : List (Bor (List Instr))) : Type 0 where
-  pub within : IsWithin hot.marks (length values)
+pub record StandsInArray (hot : Hot) (values : List ℕ) (opens : List Open) (nexts : List (Bor (List Instr))) : Type 0 where
+  pub within : AreInArray hot.marks (length values)
   pub low : hot.low ≤ length opens
   pub many : length opens - hot.low ≤ length nexts
   pub tower : IsTower (above hot.low opens) (hot.marks.sp - hot.marks.floor)
 
 -- whatever lies around the frame, it goes on so, and what others have stays
-pub record GoesOn (out : Outer → Outcome) (was now : Hot) (values values' : List ℕ)
+pub record GoesOnAnywhere (out : Outer → Outcome) (was now : Hot) (values values' : List ℕ)
     (opens opens' : List Open) (nexts nexts' : List (Bor (List Instr))) : Type 0 where
   pub on : (a : Outer) → out a ≡ Goes (thread_at (place a now values' opens' nexts'))
-  pub stands : Stands now values' opens' nexts'
+  pub stands : StandsInArray now values' opens' nexts'
   pub low : now.low ≡ was.low
   pub base : now.marks.base ≡ was.marks.base
   pub deep : take was.marks.base values' ≡ take was.marks.base values

@@ -8,7 +8,7 @@ ghost use Rattle.wasm_semantics.specs.Control.{enter, branch_at, leave};
 ghost use Rattle.wasm_data.specs.Cuts.{above};
 ghost use Rattle.wasm_data.specs.Marked.{operands_in};
 ghost use Rattle.wasm_blocks.specs.Levels.{rest_of, HasKept};
-ghost use Rattle.wasm_blocks.specs.Runs.{Stands, GoesOn, place, own_nexts};
+ghost use Rattle.wasm_blocks.specs.Runs.{StandsInArray, GoesOnAnywhere, place, own_nexts};
 ghost use Rattle.wasm_blocks.specs.Rest.{Placed, part_of};
 
 use crate::hot::Hot;
@@ -49,10 +49,10 @@ pub fn enter_block<'m>(
     opens: &mut Stack<Open>,
     nexts: &mut Stack<&'m [Instr]>,
 ) -> Result<Hot<'m>, AllocError>
-    requires stands { Stands hot values.now opens.old nexts.old }
+    requires stands { StandsInArray hot values.now opens.old nexts.old }
     requires rest { rest_of loops next.now ≡ hot.code.now }
     ensures goes { IfOk result (λ now.
-        GoesOn (λ a. let p = place a hot.entry values.now opens.old nexts.old in enter p p.level.values code.now (truth keeps) next.now)
+        GoesOnAnywhere (λ a. let p = place a hot.entry values.now opens.old nexts.old in enter p p.level.values code.now (truth keeps) next.now)
         hot.entry now values.now values.now opens.old opens.new nexts.old nexts.new) }
     ensures placed { IfOk result (λ now. (body : List Instruction) (i : Instruction) →
         Placed body (i ∷ hot.entry.code.now) (own_nexts hot.entry.low opens.old nexts.old) (above hot.entry.low opens.old) →
@@ -82,10 +82,10 @@ pub fn leave_block<'m>(
     opens: &mut Stack<Open>,
     nexts: &mut Stack<&'m [Instr]>,
 ) -> Hot<'m>
-    requires stands { Stands hot values.now opens.old nexts.old }
+    requires stands { StandsInArray hot values.now opens.old nexts.old }
     requires inside { hot.low < length opens.old }
     ensures fewer { length opens.new < length opens.old }
-    ensures goes { GoesOn (λ a. leave (place a hot.entry values.now opens.old nexts.old))
+    ensures goes { GoesOnAnywhere (λ a. leave (place a hot.entry values.now opens.old nexts.old))
         hot.entry result values.now values.now opens.old opens.new nexts.old nexts.new }
     ensures placed { (body : List Instruction) →
         Placed body hot.entry.code.now (own_nexts hot.entry.low opens.old nexts.old) (above hot.entry.low opens.old) →
@@ -113,11 +113,11 @@ pub fn branch_to<'m>(
     opens: &mut Stack<Open>,
     nexts: &mut Stack<&'m [Instr]>,
 ) -> Hot<'m>
-    requires stands { Stands hot values.old opens.old nexts.old }
+    requires stands { StandsInArray hot values.old opens.old nexts.old }
     requires inside { label + hot.low < length opens.old }
     requires kept { HasKept (above hot.low opens.old) label (operands_in hot.marks.floor hot.marks.sp values.old) }
     ensures fewer { length opens.new < length opens.old }
-    ensures goes { GoesOn (λ a. let p = place a hot.entry values.old opens.old nexts.old in branch_at p label p.level.values)
+    ensures goes { GoesOnAnywhere (λ a. let p = place a hot.entry values.old opens.old nexts.old in branch_at p label p.level.values)
         hot.entry result values.old values.new opens.old opens.new nexts.old nexts.new }
     ensures placed { (body : List Instruction) →
         Placed body hot.entry.code.now (own_nexts hot.entry.low opens.old nexts.old) (above hot.entry.low opens.old) →

@@ -14,35 +14,35 @@ use Rattle.wasm_code.proofs.Agreements.{bind, bind_ok, ok_is, here}
 use Rattle.wasm_code.proofs.FieldsBothWays.{filling_sound, filling_complete}
 use Rattle.wasm_code.proofs.BodiesBothWays.{expr_reads, body_reads}
 use Rattle.wasm_code.proofs.BodyExtents.{expr_goes}
-use Rattle.wasm_code.specs.Answers.{Gives, OrNoMemory}
+use Rattle.wasm_code.specs.Answers.{ReadsAs, OrNoMemory}
 
 -- what is read is all that is spelled
 pub record Reads {X : Type 0} (Spelled : X → Type 0) (reading : Result X DecodeError) : Type 0 where
   pub sound : (x : X) → reading ≡ Ok x → Spelled x
   pub complete : (x : X) → Spelled x → reading ≡ Ok x
 
-pub found : {X : Type 0} (Spelled : X → Type 0) (reading result : Result X DecodeError) → Reads Spelled reading → Gives (λ x. x) result reading → IfOk result Spelled
+pub found : {X : Type 0} (Spelled : X → Type 0) (reading result : Result X DecodeError) → Reads Spelled reading → ReadsAs (λ x. x) result reading → IfOk result Spelled
 found Spelled reading (Ok x) a g = a.sound x g
 found Spelled reading (Err e) a g = tt
 
-answer_by : {X : Type 0} (reading result answer : Result X DecodeError) → Gives (λ x. x) result reading → reading ≡ answer → OrNoMemory result answer
+answer_by : {X : Type 0} (reading result answer : Result X DecodeError) → ReadsAs (λ x. x) result reading → reading ≡ answer → OrNoMemory result answer
 answer_by reading (Ok x) answer g e = inl (sym g ∙ e)
 answer_by reading (Err (Malformed at)) answer g e = inl (sym g ∙ e)
 answer_by reading (Err (TooDeep at)) answer g e = inl (sym g ∙ e)
 answer_by reading (Err (TooManyLocals f)) answer g e = inl (sym g ∙ e)
 answer_by reading (Err NoMemory) answer g e = inr refl
 
-pub only : {X : Type 0} (Spelled : X → Type 0) (reading result : Result X DecodeError) → Reads Spelled reading → Gives (λ x. x) result reading → (x : X) → Spelled x → OrNoMemory result (Ok x)
+pub only : {X : Type 0} (Spelled : X → Type 0) (reading result : Result X DecodeError) → Reads Spelled reading → ReadsAs (λ x. x) result reading → (x : X) → Spelled x → OrNoMemory result (Ok x)
 only Spelled reading result a g x d = answer_by reading result (Ok x) g (a.complete x d)
 
-pub fault : {X : Type 0} (reading result : Result X DecodeError) → Gives (λ x. x) result reading → IfErr result (λ e. (e ≡ NoMemory) ⊎ Fails reading e)
+pub fault : {X : Type 0} (reading result : Result X DecodeError) → ReadsAs (λ x. x) result reading → IfErr result (λ e. (e ≡ NoMemory) ⊎ Fails reading e)
 fault reading (Ok x) g = tt
 fault reading (Err (Malformed at)) g = inr g
 fault reading (Err (TooDeep at)) g = inr g
 fault reading (Err (TooManyLocals f)) g = inr g
 fault reading (Err NoMemory) g = inl refl
 
-pub first : {X : Type 0} (reading result : Result X DecodeError) → Gives (λ x. x) result reading → (e : DecodeError) → Fails reading e → OrNoMemory result (Err e)
+pub first : {X : Type 0} (reading result : Result X DecodeError) → ReadsAs (λ x. x) result reading → (e : DecodeError) → Fails reading e → OrNoMemory result (Err e)
 first reading result g e h = answer_by reading result (Err e) g h
 
 -- bodies

@@ -11,14 +11,14 @@ use Rattle.wasm_leb.proofs.Roundtrip.{spelled}
 use Rattle.wasm_code.specs.declared.error.DecodeError.{DecodeError}
 use Rattle.wasm_code.specs.declared.error.DecodeError.TheVariants.{Malformed, TooDeep, TooManyLocals, NoMemory}
 use Rattle.wasm_code.specs.Places.{Place, Reading, ◌>>=◌, past, byte, byte_of, check, ended}
-use Rattle.wasm_code.specs.Agreement.{Agrees, IsFurther, IsWithin}
+use Rattle.wasm_code.specs.Agreement.{Agrees, IsFurther, IsFaultWithin}
 use Rattle.wasm_code.specs.Fields.{number_of, u32, s32, s64, raw, bits32, bits64, tag, one_of, one_of_at, val_type, times, vector, range, filling, sized, bytes, name}
 use Rattle.wasm_code.proofs.Agreements.{ok_is, check_ok, here, bind_ok, Reads}
 
 -- a reading from p: where it goes on, and where its faults are
 pub record Moves {X : Type 0} (p : Place) (to : X → Place) (r : Result X DecodeError) : Type 0 where
   pub further : (x : X) → r ≡ Ok x → IsFurther p (to x)
-  pub within : (e : DecodeError) → r ≡ Err e → IsWithin p e
+  pub within : (e : DecodeError) → r ≡ Err e → IsFaultWithin p e
 
 pub err_is : {A : Type 0} (d e : DecodeError) → ◌≡◌ {A = Result A DecodeError} (Err d) (Err e) → d ≡ e
 err_is d e h = cc
@@ -26,8 +26,8 @@ err_is d e h = cc
 pub moves_ok : {X : Type 0} (p : Place) (to : X → Place) (x : X) → IsFurther p (to x) → Moves p to (Ok x)
 moves_ok p to x m = record { further = λ y e. subst (λ x. IsFurther p (to x)) (ok_is x y e) m; within = λ d e. absurd cc }
 
-pub moves_err : {X : Type 0} (p : Place) (to : X → Place) (e : DecodeError) → IsWithin p e → Moves p to (Err e)
-moves_err p to e m = record { further = λ y h. absurd cc; within = λ d h. subst (IsWithin p) (err_is e d h) m }
+pub moves_err : {X : Type 0} (p : Place) (to : X → Place) (e : DecodeError) → IsFaultWithin p e → Moves p to (Err e)
+moves_err p to e m = record { further = λ y h. absurd cc; within = λ d h. subst (IsFaultWithin p) (err_is e d h) m }
 
 pub moves_then : {A B : Type 0} (p : Place) (to : A → Place) (on : B → Place) (r : Result A DecodeError) (f : A → Result B DecodeError) → Moves p to r
     → ((a : A) → r ≡ Ok a → IsFurther p (to a) → Moves p on (f a)) → Moves p on (r >>= f)
@@ -60,7 +60,7 @@ inside p q a =
     let less : length q.rest ≡ length p.rest - a.0 = ap (λ (q : Place). length q.rest) a.2 ∙ length-drop a.0 p.rest in
     record { low = omega arith; high = omega (arith, a.1) }
 
-pub wider : (p q : Place) (e : DecodeError) → Inside p q → IsWithin q e → IsWithin p e
+pub wider : (p q : Place) (e : DecodeError) → Inside p q → IsFaultWithin q e → IsFaultWithin p e
 wider p q (Malformed at) i w = (omega (arith, i.low, w.0), omega (arith, i.high, w.1))
 wider p q (TooDeep at) i w = (omega (arith, i.low, w.0), omega (arith, i.high, w.1))
 wider p q (TooManyLocals f) i w = tt
@@ -70,7 +70,7 @@ wider p q NoMemory i w = w
 pub behind : {X : Type 0} (p q : Place) (to : X → Place) (r : Result X DecodeError) → IsFurther p q → Moves q to r → Moves p to r
 behind p q to r a m = record { further = λ x e. further p q (to x) a (m.further x e); within = λ e h. wider p q e (inside p q a) (m.within e h) }
 
-pub here_bad : (p : Place) → IsWithin p (Malformed p.at)
+pub here_bad : (p : Place) → IsFaultWithin p (Malformed p.at)
 here_bad p = (omega arith, omega arith)
 
 -- where a reading goes on
@@ -95,7 +95,7 @@ pub three : {A B C X : Type 0} (f : A → B → C → X) (read : Place → Readi
     → Goes (λ p. read p >>= λ a. next a.1 >>= λ b. last b.1 >>= λ c. Ok (f a.0 b.0 c.0, c.1))
 three f read next last m k l p = chained p behind_it (read p) (λ a. next a.1 >>= λ b. last b.1 >>= λ c. Ok (f a.0 b.0 c.0, c.1)) (m p) (λ a. two (f a.0) next last k l a.1)
 
-pub checks : (p : Place) (b : Bool) (at : ℕ) → IsWithin p (Malformed at) → Moves {X = Unit {0}} p (λ t. p) (check b at)
+pub checks : (p : Place) (b : Bool) (at : ℕ) → IsFaultWithin p (Malformed at) → Moves {X = Unit {0}} p (λ t. p) (check b at)
 checks p true at w = moves_ok p (λ t. p) tt (stays p)
 checks p false at w = moves_err p (λ t. p) (Malformed at) w
 
@@ -201,7 +201,7 @@ range_cut p r e =
 pub range_inside : (p : Place) (r : Place × Place) → range p ≡ Ok r → Inside p r.0
 range_inside p r e = (range_cut p r e).inner
 
-range_faults : (p : Place) (e : DecodeError) → range p ≡ Err e → IsWithin p e
+range_faults : (p : Place) (e : DecodeError) → range p ≡ Err e → IsFaultWithin p e
 unfolding range
 range_faults p e h =
     let f : ℕ × Place → Result (Place × Place) DecodeError = λ n. check (nat_le n.0 (length n.1.rest)) p.at >>= λ t. Ok (record { rest = take n.0 n.1.rest; at = n.1.at }, past n.0 n.1) in
@@ -216,7 +216,7 @@ range_moves p = record { further = λ r e. (range_cut p r e).after; within = ran
 pub ranged : {X : Type 0} (p : Place) (on : X → Place) (f : Place × Place → Result X DecodeError) → ((r : Place × Place) → Inside p r.0 → IsFurther p r.1 → Moves p on (f r)) → Moves p on (range p >>= f)
 ranged p on f h = moves_then p after_range on (range p) f (range_moves p) (λ r e k. h r (range_inside p r e) k)
 
-pub filling_within : {X : Type 0} (read : Place → Reading X) → Goes read → (p : Place) (e : DecodeError) → filling read p ≡ Err e → IsWithin p e
+pub filling_within : {X : Type 0} (read : Place → Reading X) → Goes read → (p : Place) (e : DecodeError) → filling read p ≡ Err e → IsFaultWithin p e
 filling_within read m p e h =
     let g = moves_then p behind_it (λ x. p) (read p) (λ x. ended x.1 >>= λ t. Ok x.0) (m p)
     (λ x k l. moves_then p (λ t. p) (λ x. p) (ended x.1) (λ t. Ok x.0) (record { further = λ t _. stays p; within = λ e h. wider p x.1 e (inside p x.1 l) ((ends x.1).within e h) })

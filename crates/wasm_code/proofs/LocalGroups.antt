@@ -7,7 +7,7 @@ use Rattle.wasm_ast.specs.declared.val_types.ValType.{ValType}
 use Rattle.wasm_code.specs.declared.error.DecodeError.{DecodeError}
 use Rattle.wasm_code.specs.declared.error.DecodeError.TheVariants.{TooManyLocals}
 use Rattle.wasm_code.specs.Places.{Place, Reading, ◌>>=◌}
-use Rattle.wasm_code.specs.Answers.{Stops}
+use Rattle.wasm_code.specs.Answers.{IsFirstFault}
 use Rattle.wasm_code.specs.Fields.{u32, val_type}
 use Rattle.wasm_code.specs.Reading.{within, locals}
 use Rattle.wasm_code.proofs.Agreements.{bind}
@@ -68,12 +68,12 @@ goes_on f found groups i left p count q t after total lt e l h d =
       counted = grind (arith, length-append, length-replicate, d.counted);
     }
 
-pub stops_at_count : (f : ℕ) (found : List ValType) (groups i left : ℕ) (p : Place) (total : Reading (List ValType)) (e : DecodeError) → i < groups → Stops e (u32 p)
-    → Declares f found groups i left p total → Stops e total
+pub stops_at_count : (f : ℕ) (found : List ValType) (groups i left : ℕ) (p : Place) (total : Reading (List ValType)) (e : DecodeError) → i < groups → IsFirstFault e (u32 p)
+    → Declares f found groups i left p total → IsFirstFault e total
 stops_at_count f found groups i left p total e lt s d = stops_whole e (u32 p) total (λ b k. sym d.so_far ∙ (ap (λ k. with_front found (locals f k left p)) (one_more groups i lt) ∙ at_fault f (groups - (i + 1)) left p found b k)) s
 
 pub stops_at_type : (f : ℕ) (found : List ValType) (groups i left : ℕ) (p : Place) (count : ℕ) (q : Place) (total : Reading (List ValType)) (e : DecodeError) → i < groups
-    → u32 p ≡ Ok (count, q) → count ≤ left → Stops e (val_type q) → Declares f found groups i left p total → Stops e total
+    → u32 p ≡ Ok (count, q) → count ≤ left → IsFirstFault e (val_type q) → Declares f found groups i left p total → IsFirstFault e total
 stops_at_type f found groups i left p count q total e lt c l s d =
     let n = groups - (i + 1) in
     stops_whole e (val_type q) total (λ b k. sym d.so_far ∙ ap (with_front found) (ap (λ k. locals f k left p) (one_more groups i lt) ∙ (at_count f n left p (count, q) c ∙ (at_type f n left (count, q) l ∙ ap (λ r. r >>= typed f n left (count, q)) k)))) s

@@ -4,7 +4,7 @@ use Rattle.std.proofs.lemmas.List.{append-nil}
 use Rattle.wasm_code.specs.declared.error.DecodeError.{DecodeError}
 use Rattle.wasm_code.specs.declared.error.DecodeError.TheVariants.{Malformed, TooDeep, TooManyLocals, NoMemory}
 use Rattle.wasm_code.specs.Places.{Place, Reading, ◌>>=◌}
-use Rattle.wasm_code.specs.Answers.{Stops}
+use Rattle.wasm_code.specs.Answers.{IsFirstFault}
 use Rattle.wasm_code.specs.Fields.{times}
 
 -- these in front of what is read
@@ -20,7 +20,7 @@ no_front (Ok x) = refl
 no_front (Err e) = refl
 
 -- a fault of the whole, where it is one of what is left
-pub stops_whole : {A B : Type 0} (e : DecodeError) (r : Result A DecodeError) (whole : Result B DecodeError) → ((d : DecodeError) → r ≡ Err d → whole ≡ Err d) → Stops e r → Stops e whole
+pub stops_whole : {A B : Type 0} (e : DecodeError) (r : Result A DecodeError) (whole : Result B DecodeError) → ((d : DecodeError) → r ≡ Err d → whole ≡ Err d) → IsFirstFault e r → IsFirstFault e whole
 stops_whole NoMemory r whole h s = tt
 stops_whole (Malformed at) r whole h s = h (Malformed at) s
 stops_whole (TooDeep at) r whole h s = h (TooDeep at) s
@@ -49,8 +49,8 @@ fault_first read front count i p total e lt h so_far =
     let one : with_front front (times read (count - i) p) ≡ Err e = rw (k, h) refl in
     sym so_far ∙ one
 
-pub stops : {X : Type 0} (read : Place → Reading X) (front : List X) (count i : ℕ) (p : Place) (total : Reading (List X)) (e : DecodeError) → i < count → Stops e (read p)
-    → SoFar read front count i p total → Stops e total
+pub stops : {X : Type 0} (read : Place → Reading X) (front : List X) (count i : ℕ) (p : Place) (total : Reading (List X)) (e : DecodeError) → i < count → IsFirstFault e (read p)
+    → SoFar read front count i p total → IsFirstFault e total
 stops read front count i p total e lt h so_far = stops_whole e (read p) total (λ d k. fault_first read front count i p total d lt k so_far) h
 
 pub is_done : {X : Type 0} (read : Place → Reading X) (front : List X) (count i : ℕ) (p : Place) (total : Reading (List X)) → count ≤ i → SoFar read front count i p total → total ≡ Ok (front, p)

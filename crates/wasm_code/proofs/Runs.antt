@@ -8,7 +8,7 @@ use Rattle.wasm_ast.specs.declared.trees.Instr.{Instr}
 use Rattle.wasm_code.specs.declared.error.DecodeError.{DecodeError}
 use Rattle.wasm_code.specs.declared.frames.Frame.{Frame}
 use Rattle.wasm_code.specs.Places.{Place, ◌>>=◌, byte}
-use Rattle.wasm_code.specs.Answers.{Stops}
+use Rattle.wasm_code.specs.Answers.{IsFirstFault}
 use Rattle.wasm_code.specs.Reading.{Next, More, end, otherwise, enter, instruction, plain, act, step, steps, go, go_on, expr}
 use Rattle.wasm_code.proofs.Agreements.{bind}
 use Rattle.wasm_code.proofs.Loops.{stops_whole}
@@ -18,7 +18,7 @@ fault_first : (fs : List Frame) (items : List Instr) (p : Place) (e : DecodeErro
 unfolding steps
 fault_first fs items p e h = ap (λ x. x >>= go_on (steps (length p.rest))) h
 
-pub fails : (fs : List Frame) (items : List Instr) (p : Place) (e : DecodeError) → Stops e (step fs items p) → Stops e (go fs items p)
+pub fails : (fs : List Frame) (items : List Instr) (p : Place) (e : DecodeError) → IsFirstFault e (step fs items p) → IsFirstFault e (go fs items p)
 fails fs items p e h = stops_whole e (step fs items p) (go fs items p) (λ d k. fault_first fs items p d k) h
 
 pub begins : (fs : List Frame) (items : List Instr) (p : Place) → fs ≡ [] → items ≡ [] → go fs items p ≡ expr p
@@ -56,7 +56,7 @@ pub other_step : (op : ℕ) (fs : List Frame) (items : List Instr) (p q : Place)
     → step fs items p ≡ Ok (More fs (items ++ i ∷ []) r)
 other_step op fs items p q i r e h k = other op fs items p q e h ∙ bind (instruction (kind_of op) p q) (λ i. Ok (More fs (items ++ i.0 ∷ []) i.1)) (i, r) k
 
-pub other_stops : (op : ℕ) (fs : List Frame) (items : List Instr) (p q : Place) (e : DecodeError) → byte p ≡ Ok (op, q) → IsOther op → Stops e (instruction (kind_of op) p q)
-    → Stops e (step fs items p)
+pub other_stops : (op : ℕ) (fs : List Frame) (items : List Instr) (p q : Place) (e : DecodeError) → byte p ≡ Ok (op, q) → IsOther op → IsFirstFault e (instruction (kind_of op) p q)
+    → IsFirstFault e (step fs items p)
 other_stops op fs items p q e b h s =
     stops_whole e (instruction (kind_of op) p q) (step fs items p) (λ d k. other op fs items p q b h ∙ ap (λ x. x >>= λ i. Ok (More fs (items ++ i.0 ∷ []) i.1)) k) s

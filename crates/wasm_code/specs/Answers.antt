@@ -12,16 +12,16 @@ abbrev pub place : Input → Place
 place input = record { rest = input.rest.now; at = input.at }
 
 -- the first fault, unless the call is out of memory
-abbrev pub Stops : {X : Type 0} → DecodeError → Result X DecodeError → Type 0
-Stops (Malformed at) reading = reading ≡ Err (Malformed at)
-Stops (TooDeep at) reading = reading ≡ Err (TooDeep at)
-Stops (TooManyLocals f) reading = reading ≡ Err (TooManyLocals f)
-Stops NoMemory reading = Unit {0}
+abbrev pub IsFirstFault : {X : Type 0} → DecodeError → Result X DecodeError → Type 0
+IsFirstFault (Malformed at) reading = reading ≡ Err (Malformed at)
+IsFirstFault (TooDeep at) reading = reading ≡ Err (TooDeep at)
+IsFirstFault (TooManyLocals f) reading = reading ≡ Err (TooManyLocals f)
+IsFirstFault NoMemory reading = Unit {0}
 
 -- what was read, seen by view, or the first fault, unless the call is out of memory
-abbrev pub Gives : {A X : Type 0} → (A → X) → Result A DecodeError → Result X DecodeError → Type 0
-Gives view (Ok a) reading = reading ≡ Ok (view a)
-Gives view (Err e) reading = Stops e reading
+abbrev pub ReadsAs : {A X : Type 0} → (A → X) → Result A DecodeError → Result X DecodeError → Type 0
+ReadsAs view (Ok a) reading = reading ≡ Ok (view a)
+ReadsAs view (Err e) reading = IsFirstFault e reading
 
 -- this answer, or out of memory
 abbrev pub OrNoMemory : {X : Type 0} → Result X DecodeError → Result X DecodeError → Type 0
@@ -32,12 +32,12 @@ abbrev pub state : Reader → Next
 state reader = More reader.frames reader.items (place reader.input)
 
 -- the reader goes on as the definition does, or stops
-abbrev pub Advances : Result Next DecodeError → Reader → Result (Unit {0}) DecodeError → Type 0
-Advances next new (Ok t) = next ≡ Ok (state new)
-Advances next new (Err e) = Stops e next
+abbrev pub ReadsOn : Result Next DecodeError → Reader → Result (Unit {0}) DecodeError → Type 0
+ReadsOn next new (Ok t) = next ≡ Ok (state new)
+ReadsOn next new (Err e) = IsFirstFault e next
 
 -- the reader goes on, or has the whole expression (true), or stops
-abbrev pub AdvancesOrEnds : Result Next DecodeError → Reader → Result Bool DecodeError → Type 0
-AdvancesOrEnds next new (Ok false) = next ≡ Ok (state new)
-AdvancesOrEnds next new (Ok true) = next ≡ Ok (Whole new.items (place new.input))
-AdvancesOrEnds next new (Err e) = Stops e next
+abbrev pub ReadsOnOrEnds : Result Next DecodeError → Reader → Result Bool DecodeError → Type 0
+ReadsOnOrEnds next new (Ok false) = next ≡ Ok (state new)
+ReadsOnOrEnds next new (Ok true) = next ≡ Ok (Whole new.items (place new.input))
+ReadsOnOrEnds next new (Err e) = IsFirstFault e next

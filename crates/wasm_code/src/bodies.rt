@@ -5,7 +5,7 @@ ghost use Rattle.wasm_ast.specs.declared.bodies.Body.{Body};
 ghost use Rattle.wasm_ast.specs.declared.trees.Seq.{Seq};
 ghost use Rattle.wasm_code.specs.declared.error.DecodeError.{DecodeError};
 ghost use Rattle.wasm_code.specs.declared.error.DecodeError.TheVariants.{NoMemory};
-ghost use Rattle.wasm_code.specs.Answers.{place, Gives, OrNoMemory};
+ghost use Rattle.wasm_code.specs.Answers.{place, ReadsAs, OrNoMemory};
 ghost use Rattle.wasm_code.specs.Grammar.{IsBody, ExprTo};
 ghost use Rattle.wasm_code.specs.Places.{Fails, part};
 ghost use Rattle.wasm_code.specs.Reading as reading;
@@ -23,7 +23,7 @@ fn locals(
     groups: u32,
     input: Input,
 ) -> Result<(Vec<ValType>, Input), DecodeError>
-    ensures { Gives (λ x. (x.0.items, place x.1)) result (reading.locals function groups 1024 (place input.entry)) }
+    ensures { ReadsAs (λ x. (x.0.items, place x.1)) result (reading.locals function groups 1024 (place input.entry)) }
 {
     let mut found = Vec::new(alloc);
     let mut room = 1024;
@@ -44,7 +44,7 @@ fn locals(
 /// The contents of the body numbered `function`: its locals and its code.
 #[tactic(auto, unfolding(crate::specs::Reading::body))]
 fn body(alloc: Global, function: u32, input: Input) -> Result<(Body, Input), DecodeError>
-    ensures { Gives (λ x. (x.0, place x.1)) result (reading.body function (place input.entry)) }
+    ensures { ReadsAs (λ x. (x.0, place x.1)) result (reading.body function (place input.entry)) }
 {
     let (groups, after) = input.u32()?;
     let (declared, after) = locals(alloc, function, groups, after)?;
@@ -58,7 +58,7 @@ fn body(alloc: Global, function: u32, input: Input) -> Result<(Body, Input), Dec
 ///
 /// The first fault, or out of memory.
 pub fn filled_body(alloc: Global, function: u32, input: Input) -> Result<Body, DecodeError>
-    ensures { Gives (λ x. x) result (reading.whole_body function (place input.entry)) }
+    ensures { ReadsAs (λ x. x) result (reading.whole_body function (place input.entry)) }
 {
     let (body, left) = body(alloc, function, input)?;
     left.ended()?;
@@ -110,7 +110,7 @@ pub fn decode_expr(
 
 /// The expression that begins here, and the offset behind it.
 fn expr_to(alloc: Global, input: Input) -> Result<(Seq, u32), DecodeError>
-    ensures { Gives (λ x. x) result (reading.expr_to (place input.entry)) }
+    ensures { ReadsAs (λ x. x) result (reading.expr_to (place input.entry)) }
 {
     let (code, after) = expr(alloc, input)?;
     Ok((code, after.at))

@@ -1,7 +1,7 @@
 //! The fields of the format, each read as one.
 
 ghost use Rattle.std.specs.Prelude.{◌≡◌, ◌≤◌, ◌<◌, length, IfOk, Ok};
-ghost use Rattle.wasm_code.specs.Answers.{place, Gives};
+ghost use Rattle.wasm_code.specs.Answers.{place, ReadsAs};
 ghost use Rattle.wasm_code.specs.Places.{byte, part, past, ended};
 ghost use Rattle.wasm_code.specs.Fields as fields;
 
@@ -38,7 +38,7 @@ impl<'a> Input<'a> {
 
     /// Nothing is left of the range.
     pub fn ended(self) -> Result<(), DecodeError>
-        ensures { Gives (λ x. x) result (ended (place self.entry)) }
+        ensures { ReadsAs (λ x. x) result (ended (place self.entry)) }
     {
         if !self.rest.is_empty() {
             return Err(DecodeError::Malformed(self.at));
@@ -48,7 +48,7 @@ impl<'a> Input<'a> {
 
     /// One byte.
     pub fn byte(self) -> Result<(u8, Input<'a>), DecodeError>
-        ensures exact { Gives (λ x. (x.0, place x.1)) result (byte (place self.entry)) }
+        ensures exact { ReadsAs (λ x. (x.0, place x.1)) result (byte (place self.entry)) }
         ensures shorter { IfOk result (λ x. length x.1.rest.now < length self.entry.rest.now) }
     {
         match self.rest {
@@ -65,7 +65,7 @@ impl<'a> Input<'a> {
 
     /// This byte and no other.
     pub fn tag(self, byte: u8) -> Result<Input<'a>, DecodeError>
-        ensures { Gives place result (fields.tag byte (place self.entry)) }
+        ensures { ReadsAs place result (fields.tag byte (place self.entry)) }
     {
         let (first, after) = self.byte()?;
         if first != byte {
@@ -77,7 +77,7 @@ impl<'a> Input<'a> {
     /// An unsigned integer of 32 bits.
     #[tactic(auto, unfolding(crate::specs::Fields::u32))]
     pub fn u32(self) -> Result<(u32, Input<'a>), DecodeError>
-        ensures { Gives (λ x. (x.0, place x.1)) result (fields.u32 (place self.entry)) }
+        ensures { ReadsAs (λ x. (x.0, place x.1)) result (fields.u32 (place self.entry)) }
     {
         match read_u32(self.rest) {
             Ok((value, used)) => Ok((value, self.past(used))),
@@ -88,7 +88,7 @@ impl<'a> Input<'a> {
     /// A signed integer of 32 bits, by its bits.
     #[tactic(auto, unfolding(crate::specs::Fields::s32))]
     pub fn s32(self) -> Result<(u32, Input<'a>), DecodeError>
-        ensures { Gives (λ x. (x.0, place x.1)) result (fields.s32 (place self.entry)) }
+        ensures { ReadsAs (λ x. (x.0, place x.1)) result (fields.s32 (place self.entry)) }
     {
         match read_s32(self.rest) {
             Ok((value, used)) => Ok((value.cast_unsigned(), self.past(used))),
@@ -99,7 +99,7 @@ impl<'a> Input<'a> {
     /// A signed integer of 64 bits, by its bits.
     #[tactic(auto, unfolding(crate::specs::Fields::s64))]
     pub fn s64(self) -> Result<(u64, Input<'a>), DecodeError>
-        ensures { Gives (λ x. (x.0, place x.1)) result (fields.s64 (place self.entry)) }
+        ensures { ReadsAs (λ x. (x.0, place x.1)) result (fields.s64 (place self.entry)) }
     {
         match read_s64(self.rest) {
             Ok((value, used)) => Ok((value.cast_unsigned(), self.past(used))),
@@ -110,7 +110,7 @@ impl<'a> Input<'a> {
     /// The bits of a float of 32 bits.
     #[tactic(auto, unfolding(crate::specs::Fields::raw))]
     pub fn bits32(self) -> Result<(u32, Input<'a>), DecodeError>
-        ensures { Gives (λ x. (x.0, place x.1)) result (fields.bits32 (place self.entry)) }
+        ensures { ReadsAs (λ x. (x.0, place x.1)) result (fields.bits32 (place self.entry)) }
     {
         let [a, b, c, d, ..] = self.rest else {
             return Err(DecodeError::Malformed(self.at));
@@ -121,7 +121,7 @@ impl<'a> Input<'a> {
     /// The bits of a float of 64 bits.
     #[tactic(auto, unfolding(crate::specs::Fields::raw))]
     pub fn bits64(self) -> Result<(u64, Input<'a>), DecodeError>
-        ensures { Gives (λ x. (x.0, place x.1)) result (fields.bits64 (place self.entry)) }
+        ensures { ReadsAs (λ x. (x.0, place x.1)) result (fields.bits64 (place self.entry)) }
     {
         let [a, b, c, d, e, f, g, h, ..] = self.rest else {
             return Err(DecodeError::Malformed(self.at));
@@ -133,7 +133,7 @@ impl<'a> Input<'a> {
     /// A value type.
     #[tactic(auto, unfolding(crate::specs::Fields::val_type))]
     pub fn val_type(self) -> Result<(ValType, Input<'a>), DecodeError>
-        ensures { Gives (λ x. (x.0, place x.1)) result (fields.val_type (place self.entry)) }
+        ensures { ReadsAs (λ x. (x.0, place x.1)) result (fields.val_type (place self.entry)) }
     {
         let (first, after) = self.byte()?;
         let val_type = match first {
@@ -149,7 +149,7 @@ impl<'a> Input<'a> {
     /// A size, the range of that size, and what is behind it.
     #[tactic(auto, unfolding(crate::specs::Fields::range))]
     pub fn range(self) -> Result<(Input<'a>, Input<'a>), DecodeError>
-        ensures exact { Gives (λ x. (place x.0, place x.1)) result (fields.range (place self.entry)) }
+        ensures exact { ReadsAs (λ x. (place x.0, place x.1)) result (fields.range (place self.entry)) }
     {
         let (size, inner) = self.u32()?;
         let size = size as usize;
@@ -169,7 +169,7 @@ impl<'a> Input<'a> {
     /// A vector of bytes.
     #[tactic(auto, unfolding(crate::specs::Fields::bytes))]
     pub fn bytes(self) -> Result<(&'a [u8], Input<'a>), DecodeError>
-        ensures { Gives (λ x. (x.0.now, place x.1)) result (fields.bytes (place self.entry)) }
+        ensures { ReadsAs (λ x. (x.0.now, place x.1)) result (fields.bytes (place self.entry)) }
     {
         let (inner, after) = self.range()?;
         Ok((inner.rest, after))
@@ -178,7 +178,7 @@ impl<'a> Input<'a> {
     /// A name: a vector of bytes that are UTF-8, as one field.
     #[tactic(auto, unfolding(crate::specs::Fields::name))]
     pub fn name(self) -> Result<(&'a [u8], Input<'a>), DecodeError>
-        ensures { Gives (λ x. (x.0.now, place x.1)) result (fields.name (place self.entry)) }
+        ensures { ReadsAs (λ x. (x.0.now, place x.1)) result (fields.name (place self.entry)) }
     {
         let (text, after) = self.bytes()?;
         match str::from_utf8(text) {

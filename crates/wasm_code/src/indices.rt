@@ -1,7 +1,7 @@
 //! Vectors of indices.
 
 ghost use Rattle.std.specs.Prelude.{◌≡◌, Ok};
-ghost use Rattle.wasm_code.specs.Answers.{place, Gives};
+ghost use Rattle.wasm_code.specs.Answers.{place, ReadsAs};
 ghost use Rattle.wasm_code.specs.Fields.{u32, times, vector};
 
 use crate::error::DecodeError;
@@ -10,7 +10,7 @@ use std::alloc::Global;
 
 /// So many indices, one behind the other. Memory is taken for those that are there, whatever the count says.
 fn times(alloc: Global, count: u32, input: Input) -> Result<(Vec<u32>, Input), DecodeError>
-    ensures { Gives (λ x. (x.0.items, place x.1)) result (times u32 count (place input.entry)) }
+    ensures { ReadsAs (λ x. (x.0.items, place x.1)) result (times u32 count (place input.entry)) }
 {
     let mut found = Vec::new(alloc);
     let mut left = input;
@@ -25,7 +25,7 @@ fn times(alloc: Global, count: u32, input: Input) -> Result<(Vec<u32>, Input), D
 /// A vector of indices: the count, and so many.
 #[tactic(auto, unfolding(crate::specs::Fields::vector))]
 pub fn indices(alloc: Global, input: Input) -> Result<(Vec<u32>, Input), DecodeError>
-    ensures { Gives (λ x. (x.0.items, place x.1)) result (vector u32 (place input.entry)) }
+    ensures { ReadsAs (λ x. (x.0.items, place x.1)) result (vector u32 (place input.entry)) }
 {
     let (count, after) = input.u32()?;
     times(alloc, count, after)

@@ -1,7 +1,7 @@
 //! Instructions that hold no instructions.
 
 ghost use Rattle.std.specs.Prelude.{◌≡◌, Ok};
-ghost use Rattle.wasm_code.specs.Answers.{place, Gives};
+ghost use Rattle.wasm_code.specs.Answers.{place, ReadsAs};
 ghost use Rattle.wasm_code.specs.Opcodes as opcodes;
 ghost use Rattle.wasm_code.specs.Reading as reading;
 
@@ -18,7 +18,7 @@ pub fn instruction<'a>(
     at: Input<'a>,
     after: Input<'a>,
 ) -> Result<(Instr, Input<'a>), DecodeError>
-    ensures { Gives (λ x. (x.0, place x.1)) result (reading.instruction (opcodes.kind_of opcode) (place at.entry) (place after.entry)) }
+    ensures { ReadsAs (λ x. (x.0, place x.1)) result (reading.instruction (opcodes.kind_of opcode) (place at.entry) (place after.entry)) }
 {
     match opcode {
         ..=0x24 => control(alloc, opcode, at, after),
@@ -35,7 +35,7 @@ fn control<'a>(
     at: Input<'a>,
     after: Input<'a>,
 ) -> Result<(Instr, Input<'a>), DecodeError>
-    ensures { Gives (λ x. (x.0, place x.1)) result (reading.instruction (opcodes.control opcode) (place at.entry) (place after.entry)) }
+    ensures { ReadsAs (λ x. (x.0, place x.1)) result (reading.instruction (opcodes.control opcode) (place at.entry) (place after.entry)) }
 {
     macro_rules! index {
         ($made:ident) => {{
@@ -77,7 +77,7 @@ fn memory<'a>(
     at: Input<'a>,
     after: Input<'a>,
 ) -> Result<(Instr, Input<'a>), DecodeError>
-    ensures { Gives (λ x. (x.0, place x.1)) result (reading.instruction (opcodes.memory opcode) (place at.entry) (place after.entry)) }
+    ensures { ReadsAs (λ x. (x.0, place x.1)) result (reading.instruction (opcodes.memory opcode) (place at.entry) (place after.entry)) }
 {
     macro_rules! access {
         ($made:ident) => {{
@@ -102,7 +102,7 @@ fn numeric<'a>(
     at: Input<'a>,
     after: Input<'a>,
 ) -> Result<(Instr, Input<'a>), DecodeError>
-    ensures { Gives (λ x. (x.0, place x.1)) result (reading.instruction (opcodes.numeric opcode) (place at.entry) (place after.entry)) }
+    ensures { ReadsAs (λ x. (x.0, place x.1)) result (reading.instruction (opcodes.numeric opcode) (place at.entry) (place after.entry)) }
 {
     macro_rules! constant {
         ($read:ident, $made:ident) => {{
@@ -127,7 +127,7 @@ fn numeric<'a>(
 
 /// `memory.copy` and `memory.fill`, by the integer behind their opcode.
 fn bulk(input: Input) -> Result<(Instr, Input), DecodeError>
-    ensures { Gives (λ x. (x.0, place x.1)) result (reading.immediates opcodes.Bulk (place input.entry)) }
+    ensures { ReadsAs (λ x. (x.0, place x.1)) result (reading.immediates opcodes.Bulk (place input.entry)) }
 {
     let (which, after) = input.u32()?;
     match which {

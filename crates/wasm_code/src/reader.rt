@@ -1,7 +1,7 @@
 //! Expressions, an opcode at a time, with the blocks that are open on a stack.
 
 ghost use Rattle.std.specs.Prelude.{◌≡◌, [], ◌∷◌, ◌++◌, OnOk, Ok};
-ghost use Rattle.wasm_code.specs.Answers.{place, Gives, state, Advances, AdvancesOrEnds};
+ghost use Rattle.wasm_code.specs.Answers.{place, ReadsAs, state, ReadsOn, ReadsOnOrEnds};
 ghost use Rattle.wasm_code.specs.Reading as reading;
 
 use crate::error::DecodeError;
@@ -29,7 +29,7 @@ pub struct Reader<'a> {
 ///
 /// The first fault, or out of memory.
 pub fn expr(alloc: Global, input: Input) -> Result<(Seq, Input), DecodeError>
-    ensures { Gives (λ x. (x.0.items, place x.1)) result (reading.expr (place input.entry)) }
+    ensures { ReadsAs (λ x. (x.0.items, place x.1)) result (reading.expr (place input.entry)) }
 {
     let mut reader = Reader {
         alloc,
@@ -48,7 +48,7 @@ pub fn expr(alloc: Global, input: Input) -> Result<(Seq, Input), DecodeError>
 /// The type of a block: a byte.
 #[tactic(auto, unfolding(crate::specs::Reading::block_type))]
 fn block_type(input: Input) -> Result<(BlockType, Input), DecodeError>
-    ensures { Gives (λ x. (x.0, place x.1)) result (reading.block_type (place input.entry)) }
+    ensures { ReadsAs (λ x. (x.0, place x.1)) result (reading.block_type (place input.entry)) }
 {
     let (first, after) = input.byte()?;
     let block_type = match first {
@@ -84,7 +84,7 @@ impl<'a> Reader<'a> {
     /// One opcode, with its immediates. Tells whether it ended the expression.
     #[tactic(auto, unfolding(crate::specs::Reading::step))]
     fn step(&mut self) -> Result<bool, DecodeError>
-        ensures { AdvancesOrEnds (reading.step self.old.frames self.old.items (place self.old.input)) self.new result }
+        ensures { ReadsOnOrEnds (reading.step self.old.frames self.old.items (place self.old.input)) self.new result }
     {
         let at = self.input;
         let (opcode, after) = at.byte()?;
@@ -125,7 +125,7 @@ impl<'a> Reader<'a> {
 
     /// At most 512 blocks are open inside one another.
     fn room(&self, opcode: Input) -> Result<(), DecodeError>
-        ensures { Gives (λ x. x) result (reading.room self.now.frames (place opcode.entry)) }
+        ensures { ReadsAs (λ x. x) result (reading.room self.now.frames (place opcode.entry)) }
     {
         if self.frames.len() >= 512 {
             return Err(DecodeError::TooDeep(opcode.at));
@@ -145,7 +145,7 @@ impl<'a> Reader<'a> {
 
     /// Begins the second part of an `if` that had none.
     fn otherwise(&mut self, opcode: Input, after: Input<'a>) -> Result<(), DecodeError>
-        ensures { Advances (reading.otherwise self.old.frames self.old.items (place opcode.entry) (place after.entry)) self.new result }
+        ensures { ReadsOn (reading.otherwise self.old.frames self.old.items (place opcode.entry) (place after.entry)) self.new result }
     {
         let Some(Frame { opened, items }) = self.frames.pop() else {
             return Err(DecodeError::Malformed(opcode.at));
@@ -162,7 +162,7 @@ impl<'a> Reader<'a> {
 
     /// Ends the innermost block, or the expression. Tells whether it was the expression.
     fn end(&mut self, after: Input<'a>) -> Result<bool, DecodeError>
-        ensures { AdvancesOrEnds (Ok (reading.end self.old.frames self.old.items (place after.entry))) self.new result }
+        ensures { ReadsOnOrEnds (Ok (reading.end self.old.frames self.old.items (place after.entry))) self.new result }
     {
         self.input = after;
         let Some(Frame { opened, items }) = self.frames.pop() else {

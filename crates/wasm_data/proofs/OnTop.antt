@@ -14,7 +14,7 @@ use Rattle.wasm_semantics.specs.OfModule.{Holds}
 use Rattle.wasm_data.specs.declared.marks.Marks.{Marks}
 use Rattle.wasm_data.specs.declared.moved.Moved.{Moved}
 use Rattle.wasm_data.specs.Marked.{operands_in}
-use Rattle.wasm_data.specs.Effects.{cells, seen, Does, DoesToValues, Carries}
+use Rattle.wasm_data.specs.Effects.{cells, seen, Does, DoesToValues, CarriesOut}
 use Rattle.wasm_semantics.specs.Operands.{LieOnTop, operated_by}
 use Rattle.wasm_data.specs.Operands.{HasOperands, operated}
 use Rattle.wasm_data.proofs.Arrays.{length_operands}
@@ -36,7 +36,7 @@ converted_one ExtendU = refl
 
 -- what an operator does is what the instruction with its opcode does
 pub operator_carries : (code : ℕ) (o : Operator) (old new : List ℕ) (marks : Marks) (answer : Moved) → operator_of code ≡ Some o
-    → DoesToValues (operated o) old new marks answer → Carries (Instr-F.Num code) old new marks answer
+    → DoesToValues (operated o) old new marks answer → CarriesOut (Instr-F.Num code) old new marks answer
 operator_carries code o old new marks answer named does m pages memory globals =
     let before = cells memory globals old in
     let d = seen before marks in

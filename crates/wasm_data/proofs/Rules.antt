@@ -10,15 +10,15 @@ use Rattle.wasm_ast.specs.declared.modules.Module.{Module}
 use Rattle.wasm_ast.specs.declared.trees.Instr.TheOpen.{Instr-F}
 use Rattle.wasm_ast.specs.declared.trees.Instr.{Instr}
 use Rattle.wasm_ast.specs.Trees.{Layer, layer}
-use Rattle.wasm_semantics.specs.Data.{Effect, effect_of, fetched, written, Wrong, with_some, with_top, moves, set_local, set_global}
+use Rattle.wasm_semantics.specs.Data.{DataEffect, effect_of, fetched, written, Wrong, with_some, with_top, moves, set_local, set_global}
 use Rattle.wasm_semantics.specs.declared.operators.Operator.{Operator}
 use Rattle.wasm_semantics.specs.Operators.{operator_of}
 use Rattle.wasm_memory.specs.Contents.{Contents}
 use Rattle.wasm_data.specs.declared.marks.Marks.{Marks}
 use Rattle.wasm_data.specs.declared.moved.Moved.{Moved}
-use Rattle.wasm_data.specs.Marked.{IsWithin, locals_in, operands_in}
-use Rattle.wasm_data.specs.Effects.{Cells, cells, seen, Does, Carries, CarriesGlobals, CarriesMemory}
-use Rattle.wasm_data.specs.Operands.{operated, IsListed, IsLoad, IsStore}
+use Rattle.wasm_data.specs.Marked.{AreInArray, locals_in, operands_in}
+use Rattle.wasm_data.specs.Effects.{Cells, cells, seen, Does, CarriesOut, CarriesGlobals, CarriesMemory}
+use Rattle.wasm_data.specs.Operands.{operated, IsListed, IsLoad, IsStoreCode}
 use Rattle.wasm_data.specs.Rules.{HasRule}
 use Rattle.wasm_data.proofs.Arrays.{length_operands, length_locals}
 use Rattle.wasm_data.proofs.Moves.{some_there, top_there}
@@ -27,7 +27,7 @@ use Rattle.wasm_data.proofs.Moves.{some_there, top_there}
 pub rule_at : (i : Instr) (y : Layer) (globals values : List ℕ) (marks : Marks) → layer i ≡ y → HasRule (layer i) globals values marks → HasRule y globals values marks
 rule_at i y globals values marks is h = let P : Layer → Type 0 = λ y. HasRule y globals values marks in subst P is h
 
-pub carried : (i : Instr) (y : Layer) (globals old new : List ℕ) (marks : Marks) (answer : Moved) → layer i ≡ y → Carries y old new marks answer → CarriesGlobals (layer i) globals globals old new marks answer
+pub carried : (i : Instr) (y : Layer) (globals old new : List ℕ) (marks : Marks) (answer : Moved) → layer i ≡ y → CarriesOut y old new marks answer → CarriesGlobals (layer i) globals globals old new marks answer
 carried i y globals old new marks answer is h =
     let P : Layer → Type 0 = λ y. CarriesGlobals y globals globals old new marks answer in
     subst P (sym is) (λ m pages memory. h m pages memory globals)
@@ -37,46 +37,46 @@ pub carried_globals : (i : Instr) (y : Layer) (globals globals' old new : List �
 carried_globals i y globals globals' old new marks answer is h = let P : Layer → Type 0 = λ y. CarriesGlobals y globals globals' old new marks answer in subst P (sym is) h
 
 -- operands that are there
-one_there : (marks : Marks) (values : List ℕ) (go : ℕ → List ℕ → Effect) → IsWithin marks (length values) → with_top Wrong (operands_in marks.floor marks.sp values) go ≢ Wrong → marks.floor < marks.sp
+one_there : (marks : Marks) (values : List ℕ) (go : ℕ → List ℕ → DataEffect) → AreInArray marks (length values) → with_top Wrong (operands_in marks.floor marks.sp values) go ≢ Wrong → marks.floor < marks.sp
 one_there marks values go w h = omega (arith, top_there (operands_in marks.floor marks.sp values) go h, length_operands marks.floor marks.sp values w.room)
 
-local_within : (marks : Marks) (values : List ℕ) (x v : ℕ) → IsWithin marks (length values) → slice_get (locals_in marks.base marks.floor values) x ≡ Some v → x < marks.floor - marks.base
+local_within : (marks : Marks) (values : List ℕ) (x v : ℕ) → AreInArray marks (length values) → slice_get (locals_in marks.base marks.floor values) x ≡ Some v → x < marks.floor - marks.base
 local_within marks values x v w e =
     omega (arith, slice_get_within (locals_in marks.base marks.floor values) x v e, length_locals marks.base marks.floor values (omega (arith, w.operands, w.room)))
 
-pub drop_needs : (globals values : List ℕ) (marks : Marks) → IsWithin marks (length values) → HasRule Instr-F.Drop globals values marks → marks.floor < marks.sp
+pub drop_needs : (globals values : List ℕ) (marks : Marks) → AreInArray marks (length values) → HasRule Instr-F.Drop globals values marks → marks.floor < marks.sp
 drop_needs globals values marks w h =
     let d = seen (cells h.memory globals values) marks in
     one_there marks values (λ v vs. moves d vs) w h.typed
 
-three_there : (vs : List ℕ) (go : ℕ → ℕ → ℕ → List ℕ → Effect) → with_top Wrong vs (λ v ws. with_top Wrong ws (λ b xs. with_top Wrong xs (λ a ys. go v b a ys))) ≢ Wrong → 3 ≤ length vs
+three_there : (vs : List ℕ) (go : ℕ → ℕ → ℕ → List ℕ → DataEffect) → with_top Wrong vs (λ v ws. with_top Wrong ws (λ b xs. with_top Wrong xs (λ a ys. go v b a ys))) ≢ Wrong → 3 ≤ length vs
 three_there [] go h = absurd (h refl)
 three_there (v ∷ []) go h = absurd (h refl)
 three_there (v ∷ b ∷ []) go h = absurd (h refl)
 three_there (v ∷ b ∷ a ∷ xs) go h = omega arith
 
-pub select_needs : (globals values : List ℕ) (marks : Marks) → IsWithin marks (length values) → HasRule Instr-F.Select globals values marks → marks.floor + 3 ≤ marks.sp
+pub select_needs : (globals values : List ℕ) (marks : Marks) → AreInArray marks (length values) → HasRule Instr-F.Select globals values marks → marks.floor + 3 ≤ marks.sp
 select_needs globals values marks w h = omega (arith, three_there (operands_in marks.floor marks.sp values) _ h.typed, length_operands marks.floor marks.sp values w.room)
 
-pub local_get_needs : (x : ℕ) (globals values : List ℕ) (marks : Marks) → IsWithin marks (length values) → HasRule (Instr-F.LocalGet x) globals values marks → x < marks.floor - marks.base
+pub local_get_needs : (x : ℕ) (globals values : List ℕ) (marks : Marks) → AreInArray marks (length values) → HasRule (Instr-F.LocalGet x) globals values marks → x < marks.floor - marks.base
 local_get_needs x globals values marks w h =
     let d = seen (cells h.memory globals values) marks in
     let there = some_there (slice_get d.locals x) (λ v. moves d (v ∷ d.values)) h.typed in
     local_within marks values x there.0 w there.1
 
 -- an instruction that sets what is there to the topmost operand
-set_needs : {A : Type 0} (o : Option A) (marks : Marks) (values : List ℕ) (go : ℕ → List ℕ → Effect) → IsWithin marks (length values)
+set_needs : {A : Type 0} (o : Option A) (marks : Marks) (values : List ℕ) (go : ℕ → List ℕ → DataEffect) → AreInArray marks (length values)
     → with_some Wrong o (λ old. with_top Wrong (operands_in marks.floor marks.sp values) go) ≢ Wrong → ((v : A) × (o ≡ Some v)) × (marks.floor < marks.sp)
 set_needs None marks values go w h = absurd (h refl)
 set_needs (Some v) marks values go w h = ((v, refl), one_there marks values go w h)
 
-pub local_set_needs : (x : ℕ) (globals values : List ℕ) (marks : Marks) → IsWithin marks (length values) → HasRule (Instr-F.LocalSet x) globals values marks → (x < marks.floor - marks.base) × (marks.floor < marks.sp)
+pub local_set_needs : (x : ℕ) (globals values : List ℕ) (marks : Marks) → AreInArray marks (length values) → HasRule (Instr-F.LocalSet x) globals values marks → (x < marks.floor - marks.base) × (marks.floor < marks.sp)
 local_set_needs x globals values marks w h =
     let d = seen (cells h.memory globals values) marks in
     let there = set_needs (slice_get d.locals x) marks values (λ v vs. set_local d x v vs) w h.typed in
     (local_within marks values x there.0.0 w there.0.1, there.1)
 
-pub local_tee_needs : (x : ℕ) (globals values : List ℕ) (marks : Marks) → IsWithin marks (length values) → HasRule (Instr-F.LocalTee x) globals values marks → (x < marks.floor - marks.base) × (marks.floor < marks.sp)
+pub local_tee_needs : (x : ℕ) (globals values : List ℕ) (marks : Marks) → AreInArray marks (length values) → HasRule (Instr-F.LocalTee x) globals values marks → (x < marks.floor - marks.base) × (marks.floor < marks.sp)
 local_tee_needs x globals values marks w h =
     let d = seen (cells h.memory globals values) marks in
     let there = set_needs (slice_get d.locals x) marks values (λ v vs. set_local d x v (v ∷ vs)) w h.typed in
@@ -88,7 +88,7 @@ global_get_needs x globals values marks h =
     let there = some_there (slice_get globals x) (λ v. moves d (v ∷ d.values)) h.typed in
     slice_get_within globals x there.0 there.1
 
-pub global_set_needs : (x : ℕ) (globals values : List ℕ) (marks : Marks) → IsWithin marks (length values) → HasRule (Instr-F.GlobalSet x) globals values marks → (x < length globals) × (marks.floor < marks.sp)
+pub global_set_needs : (x : ℕ) (globals values : List ℕ) (marks : Marks) → AreInArray marks (length values) → HasRule (Instr-F.GlobalSet x) globals values marks → (x < length globals) × (marks.floor < marks.sp)
 global_set_needs x globals values marks w h =
     let d = seen (cells h.memory globals values) marks in
     let there = set_needs (slice_get globals x) marks values (λ v vs. set_global d x v vs) w h.typed in
@@ -233,7 +233,7 @@ load_listed n a h0 =
           ]
     ]
 
-pub store_listed : (n : ℕ) (a : Access) → store_of n ≡ Some a → IsStore n
+pub store_listed : (n : ℕ) (a : Access) → store_of n ≡ Some a → IsStoreCode n
 unfolding store_of
 store_listed n a h0 =
     elim (found (nat_eq n 54) _ _ a h0) [
@@ -263,7 +263,7 @@ store_listed n a h0 =
     ]
 
 -- what an instruction on the memory needs
-pub load_needs : (m : Module) (pages code align offset : ℕ) (c : Cells) (marks : Marks) → IsWithin marks (length c.values) → effect_of m pages (Instr-F.Load code align offset) (seen c marks) ≢ Wrong
+pub load_needs : (m : Module) (pages code align offset : ℕ) (c : Cells) (marks : Marks) → AreInArray marks (length c.values) → effect_of m pages (Instr-F.Load code align offset) (seen c marks) ≢ Wrong
     → IsLoad code × (marks.floor < marks.sp)
 load_needs m pages code align offset c marks w h =
     let d = seen c marks in
@@ -271,13 +271,13 @@ load_needs m pages code align offset c marks w h =
     let P : Option Access → Type 0 = λ o. with_some Wrong o (λ k. with_top Wrong d.values (λ a vs. fetched d k (memory_load d.memory (a + offset) k.width) vs)) ≢ Wrong in
     (load_listed code there.0 there.1, one_there marks c.values (λ a vs. fetched d there.0 (memory_load d.memory (a + offset) there.0.width) vs) w (subst P there.1 h))
 
-two_there : (vs : List ℕ) (go : ℕ → ℕ → List ℕ → Effect) → with_top Wrong vs (λ v ws. with_top Wrong ws (go v)) ≢ Wrong → 2 ≤ length vs
+two_there : (vs : List ℕ) (go : ℕ → ℕ → List ℕ → DataEffect) → with_top Wrong vs (λ v ws. with_top Wrong ws (go v)) ≢ Wrong → 2 ≤ length vs
 two_there [] go h = absurd (h refl)
 two_there (v ∷ []) go h = absurd (h refl)
 two_there (v ∷ b ∷ xs) go h = omega arith
 
-pub store_needs : (m : Module) (pages code align offset : ℕ) (c : Cells) (marks : Marks) → IsWithin marks (length c.values) → effect_of m pages (Instr-F.Store code align offset) (seen c marks) ≢ Wrong
-    → IsStore code × (marks.floor + 2 ≤ marks.sp)
+pub store_needs : (m : Module) (pages code align offset : ℕ) (c : Cells) (marks : Marks) → AreInArray marks (length c.values) → effect_of m pages (Instr-F.Store code align offset) (seen c marks) ≢ Wrong
+    → IsStoreCode code × (marks.floor + 2 ≤ marks.sp)
 store_needs m pages code align offset c marks w h =
     let d = seen c marks in
     let go = λ (k : Access) (v a : ℕ) (ws : List ℕ). written d (memory_store d.memory (a + offset) k.width v) ws in
@@ -286,13 +286,13 @@ store_needs m pages code align offset c marks w h =
     let some = two_there d.values (go there.0) (subst P there.1 h) in
     (store_listed code there.0 there.1, omega (arith, some, length_operands marks.floor marks.sp c.values w.room))
 
-pub grow_needs : (m : Module) (pages : ℕ) (c : Cells) (marks : Marks) → IsWithin marks (length c.values) → effect_of m pages Instr-F.MemoryGrow (seen c marks) ≢ Wrong → marks.floor < marks.sp
+pub grow_needs : (m : Module) (pages : ℕ) (c : Cells) (marks : Marks) → AreInArray marks (length c.values) → effect_of m pages Instr-F.MemoryGrow (seen c marks) ≢ Wrong → marks.floor < marks.sp
 grow_needs m pages c marks w h = one_there marks c.values _ w h
 
-pub copy_needs : (m : Module) (pages : ℕ) (c : Cells) (marks : Marks) → IsWithin marks (length c.values) → effect_of m pages Instr-F.MemoryCopy (seen c marks) ≢ Wrong → marks.floor + 3 ≤ marks.sp
+pub copy_needs : (m : Module) (pages : ℕ) (c : Cells) (marks : Marks) → AreInArray marks (length c.values) → effect_of m pages Instr-F.MemoryCopy (seen c marks) ≢ Wrong → marks.floor + 3 ≤ marks.sp
 copy_needs m pages c marks w h = omega (arith, three_there (operands_in marks.floor marks.sp c.values) _ h, length_operands marks.floor marks.sp c.values w.room)
 
-pub fill_needs : (m : Module) (pages : ℕ) (c : Cells) (marks : Marks) → IsWithin marks (length c.values) → effect_of m pages Instr-F.MemoryFill (seen c marks) ≢ Wrong → marks.floor + 3 ≤ marks.sp
+pub fill_needs : (m : Module) (pages : ℕ) (c : Cells) (marks : Marks) → AreInArray marks (length c.values) → effect_of m pages Instr-F.MemoryFill (seen c marks) ≢ Wrong → marks.floor + 3 ≤ marks.sp
 fill_needs m pages c marks w h = omega (arith, three_there (operands_in marks.floor marks.sp c.values) _ h, length_operands marks.floor marks.sp c.values w.room)
 
 pub carried_memory : (i : Instr) (y : Layer) (m : Module) (pages : ℕ) (memory memory' : Contents) (globals old new : List ℕ) (marks : Marks) (answer : Moved) → layer i ≡ y → page_limit m ≡ memory.maximum

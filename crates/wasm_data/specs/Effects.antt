@@ -3,12 +3,12 @@ use Rattle.std.specs.Prelude.{ℕ, ◌≡◌, List, ◌∷◌, length, take}
 use Rattle.wasm_ast.specs.declared.modules.Module.{Module}
 use Rattle.wasm_ast.specs.Trees.{Layer}
 use Rattle.wasm_ast.specs.Spaces.{page_limit}
-use Rattle.wasm_semantics.specs.Data.{Data, Effect, Moves, Traps, moves, effect_of}
+use Rattle.wasm_semantics.specs.Data.{Data, DataEffect, Moves, Traps, moves, effect_of}
 use Rattle.wasm_memory.specs.Contents.{Contents}
 use Rattle.wasm_data.specs.declared.marks.Marks.{Marks}
 use Rattle.wasm_data.specs.declared.moved.Moved.{Moved}
 use Rattle.wasm_data.specs.declared.moved.Moved.TheVariants as moved
-use Rattle.wasm_data.specs.Marked.{IsWithin, locals_in, operands_in, raised}
+use Rattle.wasm_data.specs.Marked.{AreInArray, locals_in, operands_in, raised}
 
 -- what such instructions read and change: the bytes of the memory, the globals, and the values of all frames
 pub record Cells : Type 0 where
@@ -30,33 +30,33 @@ seen c marks = record {
 }
 
 -- the frame's data are as the effect says, with the free places from sp on, and what lies below the frame stays
-pub record HasMoved (effect : Effect) (old new : Cells) (marks : Marks) (sp : ℕ) : Type 0 where
+pub record HasMoved (effect : DataEffect) (old new : Cells) (marks : Marks) (sp : ℕ) : Type 0 where
   pub is : effect ≡ Moves (seen new (raised marks sp))
-  pub within : IsWithin (raised marks sp) (length new.values)
+  pub within : AreInArray (raised marks sp) (length new.values)
   pub deep : take marks.base new.values ≡ take marks.base old.values
 
 -- one operand more, for which there is no place
-pub record LacksRoom (effect : Effect) (old : Cells) (marks : Marks) : Type 0 where
+pub record LacksRoom (effect : DataEffect) (old : Cells) (marks : Marks) : Type 0 where
   pub value : ℕ
   pub is : effect ≡ moves (seen old marks) (value ∷ operands_in marks.floor marks.sp old.values)
   pub full : marks.sp ≡ length old.values
 
 -- what was answered is the effect; at a trap, for want of room and out of memory nothing changes
-abbrev pub Does : Effect → Cells → Cells → Marks → Moved → Type 0
+abbrev pub Does : DataEffect → Cells → Cells → Marks → Moved → Type 0
 Does effect old new marks (moved.Goes sp) = HasMoved effect old new marks sp
 Does effect old new marks (moved.Trapped t) = (new ≡ old) × (effect ≡ Traps t)
 Does effect old new marks moved.Full = (new ≡ old) × LacksRoom effect old marks
 Does effect old new marks moved.NoMemory = new ≡ old
 
 -- the same of an instruction that changes values alone, whatever the memory and the globals are
-abbrev pub DoesToValues : (Data → Effect) → List ℕ → List ℕ → Marks → Moved → Type 0
+abbrev pub DoesToValues : (Data → DataEffect) → List ℕ → List ℕ → Marks → Moved → Type 0
 DoesToValues effect old new marks answer =
     (memory globals : List ℕ) →
     Does (effect (seen (cells memory globals old) marks)) (cells memory globals old) (cells memory globals new) marks answer
 
 -- the instruction is carried out so, in any module and under any limit of pages
-abbrev pub Carries : Layer → List ℕ → List ℕ → Marks → Moved → Type 0
-Carries y old new marks answer = (m : Module) (pages : ℕ) → DoesToValues (effect_of m pages y) old new marks answer
+abbrev pub CarriesOut : Layer → List ℕ → List ℕ → Marks → Moved → Type 0
+CarriesOut y old new marks answer = (m : Module) (pages : ℕ) → DoesToValues (effect_of m pages y) old new marks answer
 
 -- the same of an instruction that may change globals too, and no memory
 abbrev pub CarriesGlobals : Layer → List ℕ → List ℕ → List ℕ → List ℕ → Marks → Moved → Type 0

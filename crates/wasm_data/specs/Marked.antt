@@ -3,7 +3,7 @@ use Rattle.std.specs.Prelude.{ℕ, ◌-◌, ◌≤◌, List, take, drop, reverse
 use Rattle.wasm_data.specs.declared.marks.Marks.{Marks}
 
 -- the first local, the first operand and the first free place lie in this order in an array of this size
-pub record IsWithin (marks : Marks) (size : ℕ) : Type 0 where
+pub record AreInArray (marks : Marks) (size : ℕ) : Type 0 where
   pub locals : marks.base ≤ marks.floor
   pub operands : marks.floor ≤ marks.sp
   pub room : marks.sp ≤ size

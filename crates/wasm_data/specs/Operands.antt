@@ -2,7 +2,7 @@
 use Rattle.std.specs.Prelude.{ℕ, ◌≡◌, ◌<◌, ◌≤◌, Bool, true, nat_eq, ◌||◌, if◌then◌else◌, List, length, Some}
 use Rattle.wasm_ast.specs.declared.val_types.ValType.{ValType}
 use Rattle.wasm_ast.specs.Operators.{Access}
-use Rattle.wasm_semantics.specs.Data.{Data, Effect, Wrong, split, computed}
+use Rattle.wasm_semantics.specs.Data.{Data, DataEffect, Wrong, split, computed}
 use Rattle.wasm_semantics.specs.declared.operators.Operator.{Operator}
 use Rattle.wasm_semantics.specs.declared.operators.Operator.TheVariants.{Extend}
 use Rattle.wasm_semantics.specs.Operators.{operator_of, type_of_operator, compute}
@@ -14,7 +14,7 @@ abbrev pub HasOperands : ℕ → List ℕ → Type 0
 HasOperands code operands = (o : Operator) → operator_of code ≡ Some o → LieOnTop (type_of_operator o).takes operands
 
 -- what an operator does
-abbrev pub operated : Operator → Data → Effect
+abbrev pub operated : Operator → Data → DataEffect
 operated o d = split Wrong (length (type_of_operator o).takes) d.values (λ args below. computed d below (compute o args))
 
 -- low bits of which a number can be made by their sign
@@ -50,7 +50,7 @@ pub record IsLoad (code : ℕ) : Type 0 where
   pub last : code ≤ 53
 
 -- the same of stores
-pub record IsStore (code : ℕ) : Type 0 where
+pub record IsStoreCode (code : ℕ) : Type 0 where
   pub first : 54 ≤ code
   pub second : 55 < code → 58 ≤ code
   pub last : code ≤ 62

@@ -2,14 +2,14 @@
 
 ghost use Rattle.std.specs.Prelude.{◌≡◌, [], ◌++◌, ◌-◌, ◌+◌, ◌≤◌, length, take, drop, reverse, replicate};
 ghost use Rattle.wasm_semantics.specs.Operators.{truth};
-ghost use Rattle.wasm_data.specs.Marked.{IsWithin, locals_in, operands_in};
+ghost use Rattle.wasm_data.specs.Marked.{AreInArray, locals_in, operands_in};
 
 use crate::marks::Marks;
 
 /// Opens a frame whose locals are so many of the topmost operands and so many zeros.
 #[inline(always)]
 pub fn open_frame(values: &mut [u64], marks: Marks, params: usize, declared: usize) -> Marks
-    requires within { IsWithin marks (length values.old) }
+    requires within { AreInArray marks (length values.old) }
     requires params { params ≤ marks.sp - marks.floor }
     requires room { marks.sp + declared ≤ length values.old }
     ensures base { result.base ≡ marks.sp - params }
@@ -36,8 +36,8 @@ pub fn open_frame(values: &mut [u64], marks: Marks, params: usize, declared: usi
 /// Puts the topmost operand of a frame, or none, onto those of the frame below; answers where the free places begin.
 #[inline(always)]
 pub fn hand(values: &mut [u64], marks: Marks, below: Marks, gives: bool) -> usize
-    requires within { IsWithin marks (length values.old) }
-    requires below { IsWithin below (length values.old) }
+    requires within { AreInArray marks (length values.old) }
+    requires below { AreInArray below (length values.old) }
     requires begins { below.sp ≡ marks.base }
     requires room { marks.floor + truth gives ≤ marks.sp }
     ensures sp { result ≡ below.sp + truth gives }

@@ -6,7 +6,7 @@ ghost use Rattle.wasm_ast.specs.Spaces.{page_limit};
 ghost use Rattle.wasm_semantics.specs.Data.{Wrong, effect_of};
 ghost use Rattle.wasm_semantics.specs.Operands.{operand_types, LieOnTop};
 ghost use Rattle.wasm_data.specs.Effects.{Does, cells, seen};
-ghost use Rattle.wasm_data.specs.Marked.{IsWithin, operands_in};
+ghost use Rattle.wasm_data.specs.Marked.{AreInArray, operands_in};
 
 use crate::marks::Marks;
 use crate::memories::{copy, fill, grow, load, size, store};
@@ -26,7 +26,7 @@ pub fn data(
     marks: Marks,
     instr: &Instr,
 ) -> Moved
-    requires within { IsWithin marks (length values.old) }
+    requires within { AreInArray marks (length values.old) }
     requires maximum { page_limit program.now ≡ memory.old.maximum }
     requires typed { effect_of program.now pages (layer instr.now) (seen (cells memory.old.bytes globals.old values.old) marks) ≢ Wrong }
     requires fits { LieOnTop (operand_types program.now (layer instr.now)) (operands_in marks.floor marks.sp values.old) }

@@ -3,7 +3,7 @@
 ghost use Rattle.std.specs.Prelude.{◌≡◌, ◌∷◌, ◌-◌, ◌+◌, ◌<◌, ◌≤◌, Some, length, take, ◌++◌, slice_get, slice_set};
 ghost use Rattle.wasm_semantics.specs.Operators.{truth};
 ghost use Rattle.wasm_data.specs.Cuts.{under};
-ghost use Rattle.wasm_data.specs.Marked.{IsWithin, locals_in, operands_in, raised};
+ghost use Rattle.wasm_data.specs.Marked.{AreInArray, locals_in, operands_in, raised};
 
 /// Where a frame lies in an array of values: its first local, its first operand, and the first free place behind its operands.
 #[derive(Clone, Copy, Debug)]
@@ -30,7 +30,7 @@ impl Marks {
 /// Puts a value on top of the operands.
 #[inline(always)]
 pub fn put(values: &mut [u64], marks: Marks, value: u64)
-    requires within { IsWithin marks (length values.old) }
+    requires within { AreInArray marks (length values.old) }
     requires room { marks.sp < length values.old }
     ensures operands { operands_in marks.floor (marks.sp + 1) values.new ≡ value ∷ operands_in marks.floor marks.sp values.old }
     ensures locals { locals_in marks.base marks.floor values.new ≡ locals_in marks.base marks.floor values.old }
@@ -42,7 +42,7 @@ pub fn put(values: &mut [u64], marks: Marks, value: u64)
 /// The topmost operand.
 #[inline(always)]
 pub fn top(values: &[u64], marks: Marks) -> u64
-    requires within { IsWithin marks (length values.now) }
+    requires within { AreInArray marks (length values.now) }
     requires some { marks.floor < marks.sp }
     ensures { operands_in marks.floor marks.sp values.now ≡ result ∷ operands_in marks.floor (marks.sp - 1) values.now }
 {
@@ -52,7 +52,7 @@ pub fn top(values: &[u64], marks: Marks) -> u64
 /// The local with this index.
 #[inline(always)]
 pub fn local(values: &[u64], marks: Marks, index: usize) -> u64
-    requires within { IsWithin marks (length values.now) }
+    requires within { AreInArray marks (length values.now) }
     requires there { index < marks.floor - marks.base }
     ensures { slice_get (locals_in marks.base marks.floor values.now) index ≡ Some result }
 {
@@ -62,7 +62,7 @@ pub fn local(values: &[u64], marks: Marks, index: usize) -> u64
 /// Sets the local with this index.
 #[inline(always)]
 pub fn set_local(values: &mut [u64], marks: Marks, index: usize, value: u64)
-    requires within { IsWithin marks (length values.old) }
+    requires within { AreInArray marks (length values.old) }
     requires there { index < marks.floor - marks.base }
     ensures locals { locals_in marks.base marks.floor values.new ≡ slice_set (locals_in marks.base marks.floor values.old) index value }
     ensures operands { operands_in marks.floor marks.sp values.new ≡ operands_in marks.floor marks.sp values.old }
@@ -74,7 +74,7 @@ pub fn set_local(values: &mut [u64], marks: Marks, index: usize, value: u64)
 /// Keeps the topmost operand, or none, and those below a place; answers where the free places begin.
 #[inline(always)]
 pub fn keep(values: &mut [u64], marks: Marks, to: usize, keeps: bool) -> usize
-    requires within { IsWithin marks (length values.old) }
+    requires within { AreInArray marks (length values.old) }
     requires above { marks.floor ≤ to }
     requires room { to + truth keeps ≤ marks.sp }
     ensures sp { result ≡ to + truth keeps }

@@ -8,8 +8,8 @@ ghost use Rattle.wasm_memory.specs.Contents.{is_width};
 ghost use Rattle.wasm_semantics.specs.Operators.{read_as};
 ghost use Rattle.wasm_semantics.specs.Operands.{LieOnTop, stored_by};
 ghost use Rattle.wasm_data.specs.Effects.{CarriesMemory};
-ghost use Rattle.wasm_data.specs.Marked.{IsWithin, operands_in};
-ghost use Rattle.wasm_data.specs.Operands.{is_read, IsLoad, IsStore, access};
+ghost use Rattle.wasm_data.specs.Marked.{AreInArray, operands_in};
+ghost use Rattle.wasm_data.specs.Operands.{is_read, IsLoad, IsStoreCode, access};
 
 use crate::marks::{Marks, put, top};
 use crate::moved::Moved;
@@ -48,7 +48,7 @@ fn load_as(
     width: u32,
     signed: bool,
 ) -> Moved
-    requires within { IsWithin marks (length values.old) }
+    requires within { AreInArray marks (length values.old) }
     requires some { marks.floor < marks.sp }
     requires fits { LieOnTop (I32 ∷ []) (operands_in marks.floor marks.sp values.old) }
     requires named { load_of code ≡ Some (access val_type width signed) }
@@ -80,7 +80,7 @@ pub(crate) fn load(
     align: u32,
     offset: u32,
 ) -> Moved
-    requires within { IsWithin marks (length values.old) }
+    requires within { AreInArray marks (length values.old) }
     requires some { marks.floor < marks.sp }
     requires fits { LieOnTop (I32 ∷ []) (operands_in marks.floor marks.sp values.old) }
     requires listed { IsLoad code }
@@ -115,7 +115,7 @@ fn store_as(
     val_type: ValType,
     width: u32,
 ) -> Moved
-    requires within { IsWithin marks (length values.now) }
+    requires within { AreInArray marks (length values.now) }
     requires two { marks.floor + 2 ≤ marks.sp }
     requires named { store_of code ≡ Some (access val_type width false) }
     requires fits { LieOnTop (stored_by (store_of code)) (operands_in marks.floor marks.sp values.now) }
@@ -143,10 +143,10 @@ pub(crate) fn store(
     align: u32,
     offset: u32,
 ) -> Moved
-    requires within { IsWithin marks (length values.now) }
+    requires within { AreInArray marks (length values.now) }
     requires two { marks.floor + 2 ≤ marks.sp }
     requires fits { LieOnTop (stored_by (store_of code)) (operands_in marks.floor marks.sp values.now) }
-    requires listed { IsStore code }
+    requires listed { IsStoreCode code }
     ensures maximum { memory.new.maximum ≡ memory.old.maximum }
     ensures does { let store = Instr-F.Store code align offset in
         (pages : ℕ) → CarriesMemory store pages memory.old memory.new values.now values.now marks result }
@@ -166,7 +166,7 @@ pub(crate) fn store(
 /// `memory.size`.
 #[inline(always)]
 pub(crate) fn size(memory: &Memory, values: &mut [u64], marks: Marks) -> Moved
-    requires { IsWithin marks (length values.old) }
+    requires { AreInArray marks (length values.old) }
     ensures { (pages : ℕ) → CarriesMemory Instr-F.MemorySize pages memory.now memory.now values.old values.new marks result }
 {
     push(values, marks, memory.size() as u64)
@@ -174,7 +174,7 @@ pub(crate) fn size(memory: &Memory, values: &mut [u64], marks: Marks) -> Moved
 
 /// `memory.grow`, where a memory may have so many pages.
 pub(crate) fn grow(pages: u32, memory: &mut Memory, values: &mut [u64], marks: Marks) -> Moved
-    requires within { IsWithin marks (length values.old) }
+    requires within { AreInArray marks (length values.old) }
     requires some { marks.floor < marks.sp }
     requires fits { LieOnTop (I32 ∷ []) (operands_in marks.floor marks.sp values.old) }
     ensures maximum { memory.new.maximum ≡ memory.old.maximum }
@@ -196,7 +196,7 @@ pub(crate) fn grow(pages: u32, memory: &mut Memory, values: &mut [u64], marks: M
 
 /// `memory.copy`.
 pub(crate) fn copy(memory: &mut Memory, values: &[u64], marks: Marks) -> Moved
-    requires within { IsWithin marks (length values.now) }
+    requires within { AreInArray marks (length values.now) }
     requires three { marks.floor + 3 ≤ marks.sp }
     requires fits { LieOnTop (I32 ∷ I32 ∷ I32 ∷ []) (operands_in marks.floor marks.sp values.now) }
     ensures maximum { memory.new.maximum ≡ memory.old.maximum }
@@ -213,7 +213,7 @@ pub(crate) fn copy(memory: &mut Memory, values: &[u64], marks: Marks) -> Moved
 
 /// `memory.fill`.
 pub(crate) fn fill(memory: &mut Memory, values: &[u64], marks: Marks) -> Moved
-    requires within { IsWithin marks (length values.now) }
+    requires within { AreInArray marks (length values.now) }
     requires three { marks.floor + 3 ≤ marks.sp }
     requires fits { LieOnTop (I32 ∷ I32 ∷ I32 ∷ []) (operands_in marks.floor marks.sp values.now) }
     ensures maximum { memory.new.maximum ≡ memory.old.maximum }

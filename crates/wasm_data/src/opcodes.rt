@@ -3,8 +3,8 @@
 
 ghost use Rattle.std.specs.Prelude.{◌≤◌, length};
 ghost use Rattle.wasm_ast.specs.declared.trees.Instr.TheOpen.{Instr-F};
-ghost use Rattle.wasm_data.specs.Effects.{Carries};
-ghost use Rattle.wasm_data.specs.Marked.{IsWithin, operands_in};
+ghost use Rattle.wasm_data.specs.Effects.{CarriesOut};
+ghost use Rattle.wasm_data.specs.Marked.{AreInArray, operands_in};
 ghost use Rattle.wasm_data.specs.Operands.{HasOperands, IsListed};
 
 use crate::marks::Marks;
@@ -18,10 +18,10 @@ use wasm_semantics::Operator::{Binary, Compare, Convert, Extend, Test, Unary};
 #[inline(always)]
 #[tactic(auto, unfolding(wasm_semantics::specs::Operators::operator_of))]
 pub(crate) fn number(values: &mut [u64], marks: Marks, code: u8) -> Moved
-    requires within { IsWithin marks (length values.old) }
+    requires within { AreInArray marks (length values.old) }
     requires listed { IsListed code }
     requires fits { HasOperands code (operands_in marks.floor marks.sp values.old) }
-    ensures { Carries (Instr-F.Num code) values.old values.new marks result }
+    ensures { CarriesOut (Instr-F.Num code) values.old values.new marks result }
 {
     match code {
         69 => operate(values, marks, code, Test(I32)),
@@ -43,11 +43,11 @@ pub(crate) fn number(values: &mut [u64], marks: Marks, code: u8) -> Moved
 #[inline(always)]
 #[tactic(auto, unfolding(wasm_semantics::specs::Operators::operator_of))]
 fn from_80(values: &mut [u64], marks: Marks, code: u8) -> Moved
-    requires within { IsWithin marks (length values.old) }
+    requires within { AreInArray marks (length values.old) }
     requires listed { IsListed code }
     requires from { 80 ≤ code }
     requires fits { HasOperands code (operands_in marks.floor marks.sp values.old) }
-    ensures { Carries (Instr-F.Num code) values.old values.new marks result }
+    ensures { CarriesOut (Instr-F.Num code) values.old values.new marks result }
 {
     match code {
         80 => operate(values, marks, code, Test(I64)),
@@ -69,11 +69,11 @@ fn from_80(values: &mut [u64], marks: Marks, code: u8) -> Moved
 #[inline(always)]
 #[tactic(auto, unfolding(wasm_semantics::specs::Operators::operator_of))]
 fn from_103(values: &mut [u64], marks: Marks, code: u8) -> Moved
-    requires within { IsWithin marks (length values.old) }
+    requires within { AreInArray marks (length values.old) }
     requires listed { IsListed code }
     requires from { 103 ≤ code }
     requires fits { HasOperands code (operands_in marks.floor marks.sp values.old) }
-    ensures { Carries (Instr-F.Num code) values.old values.new marks result }
+    ensures { CarriesOut (Instr-F.Num code) values.old values.new marks result }
 {
     match code {
         103 => operate(values, marks, code, Unary(I32, UnaryOp::Clz)),
@@ -102,11 +102,11 @@ fn from_103(values: &mut [u64], marks: Marks, code: u8) -> Moved
 #[inline(always)]
 #[tactic(auto, unfolding(wasm_semantics::specs::Operators::operator_of))]
 fn from_121(values: &mut [u64], marks: Marks, code: u8) -> Moved
-    requires within { IsWithin marks (length values.old) }
+    requires within { AreInArray marks (length values.old) }
     requires listed { IsListed code }
     requires from { 121 ≤ code }
     requires fits { HasOperands code (operands_in marks.floor marks.sp values.old) }
-    ensures { Carries (Instr-F.Num code) values.old values.new marks result }
+    ensures { CarriesOut (Instr-F.Num code) values.old values.new marks result }
 {
     match code {
         121 => operate(values, marks, code, Unary(I64, UnaryOp::Clz)),
@@ -135,11 +135,11 @@ fn from_121(values: &mut [u64], marks: Marks, code: u8) -> Moved
 #[inline(always)]
 #[tactic(auto, unfolding(wasm_semantics::specs::Operators::operator_of))]
 fn from_167(values: &mut [u64], marks: Marks, code: u8) -> Moved
-    requires within { IsWithin marks (length values.old) }
+    requires within { AreInArray marks (length values.old) }
     requires listed { IsListed code }
     requires from { 167 ≤ code }
     requires fits { HasOperands code (operands_in marks.floor marks.sp values.old) }
-    ensures { Carries (Instr-F.Num code) values.old values.new marks result }
+    ensures { CarriesOut (Instr-F.Num code) values.old values.new marks result }
 {
     match code {
         167 => operate(values, marks, code, Convert(ConvertOp::Wrap)),

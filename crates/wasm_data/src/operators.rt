@@ -5,8 +5,8 @@ ghost use Rattle.wasm_ast.specs.Operators.{bits};
 ghost use Rattle.wasm_ast.specs.declared.trees.Instr.TheOpen.{Instr-F};
 ghost use Rattle.wasm_num.specs.Num.{width};
 ghost use Rattle.wasm_semantics.specs.Operators.{operator_of, converted_type, extended_from};
-ghost use Rattle.wasm_data.specs.Effects.{DoesToValues, Carries};
-ghost use Rattle.wasm_data.specs.Marked.{IsWithin, operands_in};
+ghost use Rattle.wasm_data.specs.Effects.{DoesToValues, CarriesOut};
+ghost use Rattle.wasm_data.specs.Marked.{AreInArray, operands_in};
 ghost use Rattle.wasm_semantics.specs.Operands.{LieOnTop};
 ghost use Rattle.wasm_data.specs.Operands.{HasOperands, operated, is_low, keeps_low};
 
@@ -34,7 +34,7 @@ pub(crate) fn is_wide(val_type: ValType) -> bool
 /// `eqz`.
 #[inline(always)]
 fn test_top(values: &mut [u64], marks: Marks, val_type: ValType) -> Moved
-    requires within { IsWithin marks (length values.old) }
+    requires within { AreInArray marks (length values.old) }
     requires some { marks.floor < marks.sp }
     requires fits { LieOnTop (val_type ∷ []) (operands_in marks.floor marks.sp values.old) }
     ensures { DoesToValues (operated (Operator.Test val_type)) values.old values.new marks result }
@@ -51,7 +51,7 @@ fn test_top(values: &mut [u64], marks: Marks, val_type: ValType) -> Moved
 /// A comparison.
 #[inline(always)]
 fn compare_top(values: &mut [u64], marks: Marks, val_type: ValType, op: CompareOp) -> Moved
-    requires within { IsWithin marks (length values.old) }
+    requires within { AreInArray marks (length values.old) }
     requires two { marks.floor + 2 ≤ marks.sp }
     requires fits { LieOnTop (val_type ∷ val_type ∷ []) (operands_in marks.floor marks.sp values.old) }
     ensures { DoesToValues (operated (Operator.Compare val_type op)) values.old values.new marks result }
@@ -69,7 +69,7 @@ fn compare_top(values: &mut [u64], marks: Marks, val_type: ValType, op: CompareO
 /// An operator on one number.
 #[inline(always)]
 fn unary_top(values: &mut [u64], marks: Marks, val_type: ValType, op: UnaryOp) -> Moved
-    requires within { IsWithin marks (length values.old) }
+    requires within { AreInArray marks (length values.old) }
     requires some { marks.floor < marks.sp }
     requires fits { LieOnTop (val_type ∷ []) (operands_in marks.floor marks.sp values.old) }
     ensures { DoesToValues (operated (Operator.Unary val_type op)) values.old values.new marks result }
@@ -86,7 +86,7 @@ fn unary_top(values: &mut [u64], marks: Marks, val_type: ValType, op: UnaryOp) -
 /// An operator on two numbers.
 #[inline(always)]
 fn binary_top(values: &mut [u64], marks: Marks, val_type: ValType, op: BinaryOp) -> Moved
-    requires within { IsWithin marks (length values.old) }
+    requires within { AreInArray marks (length values.old) }
     requires two { marks.floor + 2 ≤ marks.sp }
     requires fits { LieOnTop (val_type ∷ val_type ∷ []) (operands_in marks.floor marks.sp values.old) }
     ensures { DoesToValues (operated (Operator.Binary val_type op)) values.old values.new marks result }
@@ -106,7 +106,7 @@ fn binary_top(values: &mut [u64], marks: Marks, val_type: ValType, op: BinaryOp)
 /// A conversion.
 #[inline(always)]
 fn convert_top(values: &mut [u64], marks: Marks, op: ConvertOp) -> Moved
-    requires within { IsWithin marks (length values.old) }
+    requires within { AreInArray marks (length values.old) }
     requires some { marks.floor < marks.sp }
     requires fits { LieOnTop (converted_type op).takes (operands_in marks.floor marks.sp values.old) }
     ensures { DoesToValues (operated (Operator.Convert op)) values.old values.new marks result }
@@ -137,7 +137,7 @@ pub(crate) fn extended(wide: bool, low: u32, a: u64) -> u64
 /// A sign extension.
 #[inline(always)]
 fn extend_top(values: &mut [u64], marks: Marks, val_type: ValType, low: u32) -> Moved
-    requires within { IsWithin marks (length values.old) }
+    requires within { AreInArray marks (length values.old) }
     requires some { marks.floor < marks.sp }
     requires low { IsTrue (is_low low) }
     ensures { DoesToValues (operated (Operator.Extend val_type low)) values.old values.new marks result }
@@ -154,11 +154,11 @@ fn extend_top(values: &mut [u64], marks: Marks, val_type: ValType, low: u32) -> 
 /// The operator with this opcode.
 #[inline(always)]
 pub(crate) fn operate(values: &mut [u64], marks: Marks, code: u8, operator: Operator) -> Moved
-    requires within { IsWithin marks (length values.old) }
+    requires within { AreInArray marks (length values.old) }
     requires named { operator_of code ≡ Some operator }
     requires low { IsTrue (keeps_low operator) }
     requires fits { HasOperands code (operands_in marks.floor marks.sp values.old) }
-    ensures { Carries (Instr-F.Num code) values.old values.new marks result }
+    ensures { CarriesOut (Instr-F.Num code) values.old values.new marks result }
 {
     match operator {
         Operator::Test(val_type) => test_top(values, marks, val_type),

@@ -3,8 +3,8 @@
 ghost use Rattle.std.specs.Prelude.{◌∷◌, ◌+◌, ◌-◌, ◌<◌, ◌≤◌, length};
 ghost use Rattle.wasm_ast.specs.declared.trees.Instr.TheOpen.{Instr-F};
 ghost use Rattle.wasm_semantics.specs.Data.{moves};
-ghost use Rattle.wasm_data.specs.Effects.{DoesToValues, Carries, CarriesGlobals};
-ghost use Rattle.wasm_data.specs.Marked.{IsWithin};
+ghost use Rattle.wasm_data.specs.Effects.{DoesToValues, CarriesOut, CarriesGlobals};
+ghost use Rattle.wasm_data.specs.Marked.{AreInArray};
 
 use crate::marks::{Marks, local, put, set_local, top};
 use crate::moved::Moved;
@@ -12,7 +12,7 @@ use crate::moved::Moved;
 /// One operand more.
 #[inline(always)]
 pub(crate) fn push(values: &mut [u64], marks: Marks, value: u64) -> Moved
-    requires { IsWithin marks (length values.old) }
+    requires { AreInArray marks (length values.old) }
     ensures { DoesToValues (λ d. moves d (value ∷ d.values)) values.old values.new marks result }
 {
     if marks.sp == values.len() {
@@ -25,9 +25,9 @@ pub(crate) fn push(values: &mut [u64], marks: Marks, value: u64) -> Moved
 /// `drop`.
 #[inline(always)]
 pub(crate) fn discard(values: &mut [u64], marks: Marks) -> Moved
-    requires within { IsWithin marks (length values.old) }
+    requires within { AreInArray marks (length values.old) }
     requires some { marks.floor < marks.sp }
-    ensures { Carries Instr-F.Drop values.old values.new marks result }
+    ensures { CarriesOut Instr-F.Drop values.old values.new marks result }
 {
     let _top = top(values, marks);
     Moved::Goes(marks.sp - 1)
@@ -36,9 +36,9 @@ pub(crate) fn discard(values: &mut [u64], marks: Marks) -> Moved
 /// `select`.
 #[inline(always)]
 pub(crate) fn select(values: &mut [u64], marks: Marks) -> Moved
-    requires within { IsWithin marks (length values.old) }
+    requires within { AreInArray marks (length values.old) }
     requires three { marks.floor + 3 ≤ marks.sp }
-    ensures { Carries Instr-F.Select values.old values.new marks result }
+    ensures { CarriesOut Instr-F.Select values.old values.new marks result }
 {
     let condition = top(values, marks);
     let second = top(values, marks.raised(marks.sp - 1));
@@ -51,9 +51,9 @@ pub(crate) fn select(values: &mut [u64], marks: Marks) -> Moved
 /// `local.get`.
 #[inline(always)]
 pub(crate) fn local_get(values: &mut [u64], marks: Marks, index: usize) -> Moved
-    requires within { IsWithin marks (length values.old) }
+    requires within { AreInArray marks (length values.old) }
     requires there { index < marks.floor - marks.base }
-    ensures { Carries (Instr-F.LocalGet index) values.old values.new marks result }
+    ensures { CarriesOut (Instr-F.LocalGet index) values.old values.new marks result }
 {
     let value = local(values, marks, index);
     push(values, marks, value)
@@ -62,10 +62,10 @@ pub(crate) fn local_get(values: &mut [u64], marks: Marks, index: usize) -> Moved
 /// `local.set`.
 #[inline(always)]
 pub(crate) fn local_set(values: &mut [u64], marks: Marks, index: usize) -> Moved
-    requires within { IsWithin marks (length values.old) }
+    requires within { AreInArray marks (length values.old) }
     requires there { index < marks.floor - marks.base }
     requires some { marks.floor < marks.sp }
-    ensures { Carries (Instr-F.LocalSet index) values.old values.new marks result }
+    ensures { CarriesOut (Instr-F.LocalSet index) values.old values.new marks result }
 {
     let value = top(values, marks);
     set_local(values, marks.raised(marks.sp - 1), index, value);
@@ -75,10 +75,10 @@ pub(crate) fn local_set(values: &mut [u64], marks: Marks, index: usize) -> Moved
 /// `local.tee`.
 #[inline(always)]
 pub(crate) fn local_tee(values: &mut [u64], marks: Marks, index: usize) -> Moved
-    requires within { IsWithin marks (length values.old) }
+    requires within { AreInArray marks (length values.old) }
     requires there { index < marks.floor - marks.base }
     requires some { marks.floor < marks.sp }
-    ensures { Carries (Instr-F.LocalTee index) values.old values.new marks result }
+    ensures { CarriesOut (Instr-F.LocalTee index) values.old values.new marks result }
 {
     let value = top(values, marks);
     set_local(values, marks, index, value);
@@ -88,7 +88,7 @@ pub(crate) fn local_tee(values: &mut [u64], marks: Marks, index: usize) -> Moved
 /// `global.get`.
 #[inline(always)]
 pub(crate) fn global_get(globals: &[u64], values: &mut [u64], marks: Marks, index: usize) -> Moved
-    requires within { IsWithin marks (length values.old) }
+    requires within { AreInArray marks (length values.old) }
     requires there { index < length globals.now }
     ensures { CarriesGlobals (Instr-F.GlobalGet index) globals.now globals.now values.old values.new marks result }
 {
@@ -98,7 +98,7 @@ pub(crate) fn global_get(globals: &[u64], values: &mut [u64], marks: Marks, inde
 /// `global.set`.
 #[inline(always)]
 pub(crate) fn global_set(globals: &mut [u64], values: &[u64], marks: Marks, index: usize) -> Moved
-    requires within { IsWithin marks (length values.now) }
+    requires within { AreInArray marks (length values.now) }
     requires there { index < length globals.old }
     requires some { marks.floor < marks.sp }
     ensures { CarriesGlobals (Instr-F.GlobalSet index) globals.old globals.new values.now values.now marks result }

@@ -3,7 +3,7 @@
 ghost use Rattle.std.specs.Prelude.{length};
 ghost use Rattle.wasm_ast.specs.Trees.{layer};
 ghost use Rattle.wasm_data.specs.Effects.{CarriesGlobals};
-ghost use Rattle.wasm_data.specs.Marked.{IsWithin};
+ghost use Rattle.wasm_data.specs.Marked.{AreInArray};
 ghost use Rattle.wasm_data.specs.Rules.{HasRule, IsPlain};
 
 use crate::marks::Marks;
@@ -17,7 +17,7 @@ use wasm_ast::Instr;
 /// Carries out an instruction that moves data and leaves the memory alone.
 #[inline(always)]
 pub(crate) fn plain(globals: &mut [u64], values: &mut [u64], marks: Marks, instr: &Instr) -> Moved
-    requires within { IsWithin marks (length values.old) }
+    requires within { AreInArray marks (length values.old) }
     requires plain { IsPlain (layer instr.now) }
     requires ruled { HasRule (layer instr.now) globals.old values.old marks }
     ensures { CarriesGlobals (layer instr.now) globals.old globals.new values.old values.new marks result }

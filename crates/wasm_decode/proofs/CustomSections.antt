@@ -4,7 +4,7 @@ use Rattle.std.specs.Prelude.{Option, Some, None}
 use Rattle.std.proofs.lemmas.List.{nil_from_length}
 use Rattle.wasm_code.specs.declared.error.DecodeError.{DecodeError}
 use Rattle.wasm_code.specs.Places.{Place, ◌>>=◌}
-use Rattle.wasm_code.specs.Answers.{Stops}
+use Rattle.wasm_code.specs.Answers.{IsFirstFault}
 use Rattle.wasm_code.specs.Fields.{range, name}
 use Rattle.wasm_code.proofs.Agreements.{bind}
 use Rattle.wasm_code.proofs.FieldsBothWays.{range_sound}
@@ -50,10 +50,10 @@ passes p q r text h e e' =
     met p q h ∙ (bind (range q) (λ r. custom r.0 >>= λ t. customs n r.1) r e ∙ (ap (λ x. (x >>= λ text. Ok tt) >>= λ t. customs n r.1) e'
     ∙ enough n (length r.1.rest) r.1 (omega (arith, after_shorter 0 p q (sym h), (range_sound q r e).1)) (omega arith)))
 
-pub bad_range : (p q : Place) (e : DecodeError) → Some q ≡ after_id 0 p → Stops e (range q) → Stops e (all_customs p)
+pub bad_range : (p q : Place) (e : DecodeError) → Some q ≡ after_id 0 p → IsFirstFault e (range q) → IsFirstFault e (all_customs p)
 bad_range p q e h s = stops_whole e (range q) (all_customs p) (λ d k. met p q h ∙ ap (λ x. x >>= λ r. custom r.0 >>= λ t. customs (length p.rest - 1) r.1) k) s
 
-pub bad_name : (p q : Place) (r : Place × Place) (e : DecodeError) → Some q ≡ after_id 0 p → range q ≡ Ok r → Stops e (name r.0) → Stops e (all_customs p)
+pub bad_name : (p q : Place) (r : Place × Place) (e : DecodeError) → Some q ≡ after_id 0 p → range q ≡ Ok r → IsFirstFault e (name r.0) → IsFirstFault e (all_customs p)
 bad_name p q r e h k s =
     let n = length p.rest - 1 in
     stops_whole e (name r.0) (all_customs p) (λ d f. met p q h ∙ (bind (range q) (λ r. custom r.0 >>= λ t. customs n r.1) r k ∙ ap (λ x. (x >>= λ text. Ok tt) >>= λ t. customs n r.1) f)) s

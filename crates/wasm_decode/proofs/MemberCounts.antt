@@ -6,7 +6,7 @@ use Rattle.wasm_code.specs.declared.error.DecodeError.{DecodeError}
 use Rattle.wasm_code.specs.Places.{Place, Reading, ◌>>=◌}
 use Rattle.wasm_code.specs.Fields.{times, sized}
 use Rattle.wasm_code.specs.Reading.{body}
-use Rattle.wasm_code.specs.Answers.{Gives}
+use Rattle.wasm_code.specs.Answers.{ReadsAs}
 use Rattle.wasm_code.proofs.Agreements.{bind_ok, ok_is}
 use Rattle.wasm_decode.specs.Parts.{bodies}
 
@@ -29,11 +29,11 @@ bodies_count f (suc n) p y e =
 
 -- what was read of a count of 32 bits is few
 pub few_times : {A X : Type 0} (view : A → List X × Place) (read : Place → Reading X) (n : ℕ) (p : Place) (result : Result A DecodeError) → n < 2 ^ 32
-    → Gives view result (times read n p) → IfOk result (λ x. length (view x).0 < 2 ^ 32)
+    → ReadsAs view result (times read n p) → IfOk result (λ x. length (view x).0 < 2 ^ 32)
 few_times view read n p (Ok x) few g = omega (arith, few, times_count read n p (view x) g)
 few_times view read n p (Err e) few g = tt
 
 pub few_bodies : {A : Type 0} (view : A → List Body × Place) (n : ℕ) (p : Place) (result : Result A DecodeError) → n < 2 ^ 32
-    → Gives view result (bodies 0 n p) → IfOk result (λ x. length (view x).0 < 2 ^ 32)
+    → ReadsAs view result (bodies 0 n p) → IfOk result (λ x. length (view x).0 < 2 ^ 32)
 few_bodies view n p (Ok x) few g = omega (arith, few, bodies_count 0 n p (view x) g)
 few_bodies view n p (Err e) few g = tt

@@ -4,7 +4,7 @@ use Rattle.std.proofs.lemmas.List.{append-nil}
 use Rattle.wasm_ast.specs.declared.bodies.Body.{Body}
 use Rattle.wasm_code.specs.declared.error.DecodeError.{DecodeError}
 use Rattle.wasm_code.specs.Places.{Place, Reading, ◌>>=◌}
-use Rattle.wasm_code.specs.Answers.{Stops}
+use Rattle.wasm_code.specs.Answers.{IsFirstFault}
 use Rattle.wasm_code.specs.Fields.{range, sized}
 use Rattle.wasm_code.specs.Reading.{body, whole_body}
 use Rattle.wasm_code.proofs.Agreements.{bind}
@@ -53,11 +53,11 @@ fault_first found count i p total e lt h so_far =
     let n = count - (i + 1) in
     sym so_far ∙ ap (with_front found) (ap (λ k. bodies i k p) (one_more count i lt) ∙ (first_of i n p ∙ ap (λ x. x >>= others i n) h))
 
-pub stops_at_size : (found : List Body) (count i : ℕ) (p : Place) (total : Reading (List Body)) (e : DecodeError) → i < count → Stops e (range p) → SoFar found count i p total → Stops e total
+pub stops_at_size : (found : List Body) (count i : ℕ) (p : Place) (total : Reading (List Body)) (e : DecodeError) → i < count → IsFirstFault e (range p) → SoFar found count i p total → IsFirstFault e total
 stops_at_size found count i p total e lt s so_far = stops_whole e (range p) total (λ d k. fault_first found count i p total d lt (bad_size i p d k) so_far) s
 
-pub stops_at_body : (found : List Body) (count i : ℕ) (p : Place) (r : Place × Place) (total : Reading (List Body)) (e : DecodeError) → i < count → range p ≡ Ok r → Stops e (whole_body i r.0)
-    → SoFar found count i p total → Stops e total
+pub stops_at_body : (found : List Body) (count i : ℕ) (p : Place) (r : Place × Place) (total : Reading (List Body)) (e : DecodeError) → i < count → range p ≡ Ok r → IsFirstFault e (whole_body i r.0)
+    → SoFar found count i p total → IsFirstFault e total
 stops_at_body found count i p r total e lt k s so_far = stops_whole e (whole_body i r.0) total (λ d f. fault_first found count i p total d lt (bad_body i p r d k f) so_far) s
 
 pub is_done : (found : List Body) (count i : ℕ) (p : Place) (total : Reading (List Body)) → count ≤ i → SoFar found count i p total → total ≡ Ok (found, p)

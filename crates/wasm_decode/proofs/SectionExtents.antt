@@ -18,7 +18,7 @@ use Rattle.wasm_ast.specs.declared.trees.Instr.{Instr}
 use Rattle.wasm_code.specs.declared.error.DecodeError.{DecodeError}
 use Rattle.wasm_code.specs.declared.error.DecodeError.TheVariants.{Malformed}
 use Rattle.wasm_code.specs.Places.{Place, Reading, ◌>>=◌, past, byte, check, ended}
-use Rattle.wasm_code.specs.Agreement.{IsFurther, IsWithin}
+use Rattle.wasm_code.specs.Agreement.{IsFurther, IsFaultWithin}
 use Rattle.wasm_code.specs.Fields.{one_of, u32, val_type, times, vector, range, sized, bytes, name}
 use Rattle.wasm_code.specs.Reading.{expr, body}
 use Rattle.wasm_code.proofs.Agreements.{here, bind_ok, ok_is}
@@ -177,11 +177,11 @@ last_moves p =
 
 -- where the faults of what makes no place are
 abbrev Faults : {X : Type 0} → Place → Result X DecodeError → Type 0
-Faults p r = (e : DecodeError) → r ≡ Err e → IsWithin p e
+Faults p r = (e : DecodeError) → r ≡ Err e → IsFaultWithin p e
 
 faults_then : {A B : Type 0} (p : Place) (to : A → Place) (r : Result A DecodeError) (f : A → Result B DecodeError) → Moves p to r → ((a : A) → Faults (to a) (f a)) → Faults p (r >>= f)
 faults_then p to (Ok a) f m h e k = wider p (to a) e (inside p (to a) (m.further a refl)) (h a e k)
-faults_then p to (Err d) f m h e k = subst (IsWithin p) (err_is d e k) (m.within d refl)
+faults_then p to (Err d) f m h e k = subst (IsFaultWithin p) (err_is d e k) (m.within d refl)
 
 ok_faults : {A : Type 0} (p : Place) (x : A) → Faults p (Ok x)
 ok_faults p x e h = absurd cc

@@ -5,7 +5,7 @@ ghost use Rattle.wasm_ast.specs.TestModules.{built, echo, fill, float, spin};
 ghost use Rattle.wasm_ast.specs.declared.modules.Module.{Module};
 ghost use Rattle.wasm_code.specs.declared.error.DecodeError.{DecodeError};
 ghost use Rattle.wasm_code.specs.declared.error.DecodeError.TheVariants.{Malformed};
-ghost use Rattle.wasm_code.specs.Agreement.{IsWithin};
+ghost use Rattle.wasm_code.specs.Agreement.{IsFaultWithin};
 ghost use Rattle.wasm_decode.specs.Examples.{built_bytes, echo_bytes, fill_bytes, float_bytes, spin_bytes, with_size};
 ghost use Rattle.wasm_decode.specs.Grammar.{Spells};
 ghost use Rattle.wasm_decode.specs.Sections.{Fails, module_of, whole};
@@ -22,7 +22,7 @@ pub fn spells_or_fails()
     ensures one_module { (bytes : List ℕ) (m n : Module) → Spells m bytes → Spells n bytes → m ≡ n }
     ensures one_fault { (bytes : List ℕ) (d e : DecodeError) → Fails bytes d → Fails bytes e → d ≡ e }
     ensures not_both { (bytes : List ℕ) (m : Module) (e : DecodeError) → Spells m bytes → Fails bytes e → ⊥ }
-    ensures within { (bytes : List ℕ) (e : DecodeError) → Fails bytes e → IsWithin (whole bytes) e }
+    ensures within { (bytes : List ℕ) (e : DecodeError) → Fails bytes e → IsFaultWithin (whole bytes) e }
 {}
 
 /// Modules are read from their bytes: a loop without an end, a float, a reply with its input, that in a longer form, which its

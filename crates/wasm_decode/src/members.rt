@@ -1,7 +1,7 @@
 //! The members of sections, and vectors of them.
 
 ghost use Rattle.std.specs.Prelude.{◌≡◌, ◌<◌, ◌^◌, length, IfOk, Ok};
-ghost use Rattle.wasm_code.specs.Answers.{place, Gives};
+ghost use Rattle.wasm_code.specs.Answers.{place, ReadsAs};
 ghost use Rattle.wasm_code.specs.Fields.{one_of, times, vector};
 ghost use Rattle.wasm_decode.specs.Parts as parts;
 
@@ -20,7 +20,7 @@ pub trait Member: Drop {
 
     /// The member that begins here, and what is behind it.
     fn read(alloc: Global, input: Input) -> Result<(Self, Input), DecodeError>
-        ensures { Gives (λ x. (x.0, place x.1)) result (read (place input.entry)) };
+        ensures { ReadsAs (λ x. (x.0, place x.1)) result (read (place input.entry)) };
 }
 
 impl Member for u32 {
@@ -49,7 +49,7 @@ pub fn times<T: Member>(
     count: u32,
     input: Input,
 ) -> Result<(Vec<T>, Input), DecodeError>
-    ensures { Gives (λ x. (x.0.items, place x.1)) result (times T.read count (place input.entry)) }
+    ensures { ReadsAs (λ x. (x.0.items, place x.1)) result (times T.read count (place input.entry)) }
 {
     let mut found = Vec::new(alloc);
     let mut left = input;
@@ -64,7 +64,7 @@ pub fn times<T: Member>(
 /// A vector: the count, and so many members.
 #[tactic(auto, unfolding(wasm_code::specs::Fields::vector))]
 pub fn vector<T: Member>(alloc: Global, input: Input) -> Result<(Vec<T>, Input), DecodeError>
-    ensures read { Gives (λ x. (x.0.items, place x.1)) result (vector T.read (place input.entry)) }
+    ensures read { ReadsAs (λ x. (x.0.items, place x.1)) result (vector T.read (place input.entry)) }
     ensures few { IfOk result (λ x. length x.0.items < 2 ^ 32) }
 {
     let (count, after) = input.u32()?;
@@ -87,7 +87,7 @@ impl Member for FuncType {
 
 /// The byte 00 or 01.
 fn flag(input: Input) -> Result<(bool, Input), DecodeError>
-    ensures { Gives (λ x. (x.0, place x.1)) result (one_of parts.flag_of (place input.entry)) }
+    ensures { ReadsAs (λ x. (x.0, place x.1)) result (one_of parts.flag_of (place input.entry)) }
 {
     let (first, after) = input.byte()?;
     match first {
@@ -100,7 +100,7 @@ fn flag(input: Input) -> Result<(bool, Input), DecodeError>
 /// Limits: a minimum, and a maximum where there is one.
 #[tactic(auto, unfolding(crate::specs::Parts::limits))]
 fn limits(input: Input) -> Result<((u32, Option<u32>), Input), DecodeError>
-    ensures { Gives (λ x. (x.0, place x.1)) result (parts.limits (place input.entry)) }
+    ensures { ReadsAs (λ x. (x.0, place x.1)) result (parts.limits (place input.entry)) }
 {
     let (bounded, after) = flag(input)?;
     let (minimum, after) = after.u32()?;
@@ -139,7 +139,7 @@ impl Member for Table {
 /// A global's value type, and whether it can be set.
 #[tactic(auto, unfolding(crate::specs::Parts::global_type))]
 fn global_type(input: Input) -> Result<((ValType, bool), Input), DecodeError>
-    ensures { Gives (λ x. (x.0, place x.1)) result (parts.global_type (place input.entry)) }
+    ensures { ReadsAs (λ x. (x.0, place x.1)) result (parts.global_type (place input.entry)) }
 {
     let (val_type, after) = input.val_type()?;
     let (mutable, after) = flag(after)?;
@@ -149,7 +149,7 @@ fn global_type(input: Input) -> Result<((ValType, bool), Input), DecodeError>
 /// What is imported.
 #[tactic(auto, unfolding(crate::specs::Parts::import_kind))]
 fn import_kind(alloc: Global, input: Input) -> Result<(ImportKind, Input), DecodeError>
-    ensures { Gives (λ x. (x.0, place x.1)) result (parts.import_kind (place input.entry)) }
+    ensures { ReadsAs (λ x. (x.0, place x.1)) result (parts.import_kind (place input.entry)) }
 {
     let (first, after) = input.byte()?;
     match first {
@@ -204,7 +204,7 @@ impl Member for GlobalVar {
 
 /// What is exported.
 fn export_kind(input: Input) -> Result<(ExportKind, Input), DecodeError>
-    ensures { Gives (λ x. (x.0, place x.1)) result (one_of parts.export_kind_of (place input.entry)) }
+    ensures { ReadsAs (λ x. (x.0, place x.1)) result (one_of parts.export_kind_of (place input.entry)) }
 {
     let (first, after) = input.byte()?;
     let kind = match first {

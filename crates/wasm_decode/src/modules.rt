@@ -5,7 +5,7 @@ ghost use Rattle.wasm_ast.specs.declared.modules.Module.{Module};
 ghost use Rattle.wasm_ast.specs.Validity.{IsSmall};
 ghost use Rattle.wasm_code.specs.declared.error.DecodeError.{DecodeError};
 ghost use Rattle.wasm_code.specs.declared.error.DecodeError.TheVariants.{NoMemory};
-ghost use Rattle.wasm_code.specs.Answers.{place, Gives, OrNoMemory};
+ghost use Rattle.wasm_code.specs.Answers.{place, ReadsAs, OrNoMemory};
 ghost use Rattle.wasm_decode.specs.Grammar.{Spells};
 ghost use Rattle.wasm_decode.specs.Sections.{Fails};
 ghost use Rattle.wasm_decode.specs.Sections as reading;
@@ -19,7 +19,7 @@ use wasm_code::{DecodeError, Input};
 
 /// These bytes, as one field.
 fn exactly<'a>(input: Input<'a>, front: &[u8]) -> Result<Input<'a>, DecodeError>
-    ensures { Gives place result (reading.exactly front.now (place input.entry)) }
+    ensures { ReadsAs place result (reading.exactly front.now (place input.entry)) }
 {
     if !input.rest.starts_with(front) {
         return Err(DecodeError::Malformed(input.at));
@@ -30,7 +30,7 @@ fn exactly<'a>(input: Input<'a>, front: &[u8]) -> Result<Input<'a>, DecodeError>
 /// The sections of a module, in their order, up to the end of the file.
 #[tactic(auto, unfolding(crate::specs::Sections::sections))]
 fn sections(alloc: Global, input: Input) -> Result<Module, DecodeError>
-    ensures read { Gives (λ x. x) result (reading.sections (place input.entry)) }
+    ensures read { ReadsAs (λ x. x) result (reading.sections (place input.entry)) }
     ensures small { IfOk result IsSmall }
 {
     let (types, input) = vector_section(alloc, 1, input)?;
@@ -58,7 +58,7 @@ fn sections(alloc: Global, input: Input) -> Result<Module, DecodeError>
 /// The header, and the sections behind it.
 fn file(alloc: Global, bytes: &[u8]) -> Result<Module, DecodeError>
     requires { length bytes.now ≤ 4194304 }
-    ensures read { Gives (λ x. x) result (reading.module_of bytes.now) }
+    ensures read { ReadsAs (λ x. x) result (reading.module_of bytes.now) }
     ensures small { IfOk result IsSmall }
 {
     let input = Input { rest: bytes, at: 0 };

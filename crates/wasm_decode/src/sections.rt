@@ -2,7 +2,7 @@
 
 ghost use Rattle.std.specs.Option.{option_map};
 ghost use Rattle.std.specs.Prelude.{◌≡◌, ◌<◌, ◌^◌, [], length, IfOk, None, Ok};
-ghost use Rattle.wasm_code.specs.Answers.{place, Gives};
+ghost use Rattle.wasm_code.specs.Answers.{place, ReadsAs};
 ghost use Rattle.wasm_code.specs.Fields.{u32, vector};
 ghost use Rattle.wasm_decode.specs.Parts as parts;
 ghost use Rattle.wasm_decode.specs.Sections as sections;
@@ -31,7 +31,7 @@ fn after_id(id: u8, input: Input) -> Option<Input>
 
 /// What is behind the custom sections that stand here.
 fn customs(input: Input) -> Result<Input, DecodeError>
-    ensures { Gives (λ x. place x) result (sections.all_customs (place input.entry)) }
+    ensures { ReadsAs (λ x. place x) result (sections.all_customs (place input.entry)) }
 {
     let mut left = input;
     'customs: while let Some(section) = after_id(0, left) {
@@ -49,7 +49,7 @@ pub fn vector_section<T: Member>(
     id: u8,
     input: Input,
 ) -> Result<(Vec<T>, Input), DecodeError>
-    ensures read { Gives (λ x. (x.0.items, place x.1)) result (sections.section id (vector T.read) [] (place input.entry)) }
+    ensures read { ReadsAs (λ x. (x.0.items, place x.1)) result (sections.section id (vector T.read) [] (place input.entry)) }
     ensures few { IfOk result (λ x. length x.0.items < 2 ^ 32) }
 {
     let input = customs(input)?;
@@ -65,7 +65,7 @@ pub fn vector_section<T: Member>(
 /// The integer of the section of this id, or none where it is left out.
 #[tactic(auto, unfolding(crate::specs::Sections::section, wasm_code::specs::Fields::sized, crate::specs::Parts::number))]
 pub fn number_section(id: u8, input: Input) -> Result<(Option<u32>, Input), DecodeError>
-    ensures { Gives (λ x. (x.0, place x.1)) result (sections.section id parts.number None (place input.entry)) }
+    ensures { ReadsAs (λ x. (x.0, place x.1)) result (sections.section id parts.number None (place input.entry)) }
 {
     let input = customs(input)?;
     let Some(section) = after_id(id, input) else {
@@ -79,7 +79,7 @@ pub fn number_section(id: u8, input: Input) -> Result<(Option<u32>, Input), Deco
 
 /// The bodies numbered from 0, so many, each behind its size.
 fn bodies(alloc: Global, count: u32, input: Input) -> Result<(Vec<Body>, Input), DecodeError>
-    ensures { Gives (λ x. (x.0.items, place x.1)) result (parts.bodies 0 count (place input.entry)) }
+    ensures { ReadsAs (λ x. (x.0.items, place x.1)) result (parts.bodies 0 count (place input.entry)) }
 {
     let mut found = Vec::new(alloc);
     let mut left = input;
@@ -95,7 +95,7 @@ fn bodies(alloc: Global, count: u32, input: Input) -> Result<(Vec<Body>, Input),
 /// The bodies of so many functions: the contents of the code section.
 #[tactic(auto, unfolding(crate::specs::Parts::code))]
 fn code(alloc: Global, functions: usize, input: Input) -> Result<(Vec<Body>, Input), DecodeError>
-    ensures read { Gives (λ x. (x.0.items, place x.1)) result (parts.code functions (place input.entry)) }
+    ensures read { ReadsAs (λ x. (x.0.items, place x.1)) result (parts.code functions (place input.entry)) }
     ensures few { IfOk result (λ x. length x.0.items < 2 ^ 32) }
 {
     let (count, after) = input.u32()?;
@@ -112,7 +112,7 @@ pub fn code_section(
     functions: usize,
     input: Input,
 ) -> Result<(Vec<Body>, Input), DecodeError>
-    ensures read { Gives (λ x. (x.0.items, place x.1)) result (sections.section 10 (parts.code functions) [] (place input.entry)) }
+    ensures read { ReadsAs (λ x. (x.0.items, place x.1)) result (sections.section 10 (parts.code functions) [] (place input.entry)) }
     ensures few { IfOk result (λ x. length x.0.items < 2 ^ 32) }
 {
     let input = customs(input)?;
@@ -142,7 +142,7 @@ fn pieces(
     counted: Option<u32>,
     input: Input,
 ) -> Result<(Vec<Piece>, Input), DecodeError>
-    ensures read { Gives (λ x. (x.0.items, place x.1)) result (parts.pieces counted (place input.entry)) }
+    ensures read { ReadsAs (λ x. (x.0.items, place x.1)) result (parts.pieces counted (place input.entry)) }
     ensures few { IfOk result (λ x. length x.0.items < 2 ^ 32) }
 {
     let (count, after) = input.u32()?;
@@ -159,7 +159,7 @@ pub fn data_section(
     counted: Option<u32>,
     input: Input,
 ) -> Result<(Vec<Piece>, Input), DecodeError>
-    ensures read { Gives (λ x. (x.0.items, place x.1)) result (sections.section 11 (parts.pieces counted) [] (place input.entry)) }
+    ensures read { ReadsAs (λ x. (x.0.items, place x.1)) result (sections.section 11 (parts.pieces counted) [] (place input.entry)) }
     ensures few { IfOk result (λ x. length x.0.items < 2 ^ 32) }
 {
     let input = customs(input)?;
@@ -174,7 +174,7 @@ pub fn data_section(
 
 /// What is behind the last section: custom ones and the end of the file.
 pub fn ended(input: Input) -> Result<Input, DecodeError>
-    ensures { Gives (λ x. place x) result (sections.last (place input.entry)) }
+    ensures { ReadsAs (λ x. place x) result (sections.last (place input.entry)) }
 {
     let left = customs(input)?;
     left.ended()?;

@@ -11,8 +11,8 @@ use Rattle.wasm_semantics.specs.Units.{unit, unit_at, limited, Course, after_uni
 use Rattle.wasm_semantics.specs.OfModule.{IsOf, Sound}
 use Rattle.wasm_semantics.proofs.Units.{unit_sound}
 use Rattle.wasm_frames.specs.declared.active.Active.{Active}
-use Rattle.wasm_frames.specs.Standing.{Held, spot_at, thread_in}
-use Rattle.wasm_frames.specs.Turns.{Went, HasAsked, IsBounded}
+use Rattle.wasm_frames.specs.Standing.{Surroundings, spot_at, thread_in}
+use Rattle.wasm_frames.specs.Turns.{Went, AsksHost, IsBounded}
 use Rattle.wasm_exec.specs.Rounds.{ended, IsLeft, HasStopped}
 
 unit_there : (m : Module) (pages : ℕ) (p : Spot) → unit m pages (thread_at p) ≡ limited (unit_at m pages p)
@@ -31,13 +31,13 @@ course_unit m pages count at p o lt h =
     ap (λ k. units_from m pages at k (thread_at p)) e ∙ ap (λ o. after_unit o (at + 1) (units_from m pages (at + 1) (count - (at + 1)))) (unit_there m pages p ∙ h)
 
 -- where a unit is the last one
-pub stops : (m : Module) (pages count first at : ℕ) (course : Course) (codes : List (Bor (List Instr))) (st : Store) (h : Held) (a : Active) (o : Outcome) (end : Course)
+pub stops : (m : Module) (pages count first at : ℕ) (course : Course) (codes : List (Bor (List Instr))) (st : Store) (h : Surroundings) (a : Active) (o : Outcome) (end : Course)
     → at < count → IsLeft m pages count course first codes st h a at → limited (unit_at m pages (spot_at m st a h)) ≡ o
     → after_unit o (at + 1) (units_from m pages (at + 1) (count - (at + 1))) ≡ end → course ≡ end
 stops m pages count first at course codes st h a o end lt l e done = l.is ∙ (course_unit m pages count at (spot_at m st a h) o lt e ∙ done)
 
 -- where it goes on
-pub goes_next : (m : Module) (pages count first at : ℕ) (course : Course) (codes : List (Bor (List Instr))) (st st' : Store) (h h' : Held) (a a' : Active) → Valid m → first ≤ at → at < count
+pub goes_next : (m : Module) (pages count first at : ℕ) (course : Course) (codes : List (Bor (List Instr))) (st st' : Store) (h h' : Surroundings) (a a' : Active) → Valid m → first ≤ at → at < count
     → IsLeft m pages count course first codes st h a at → Went m (limited (unit_at m pages (spot_at m st a h))) st' h' a' → IsBounded h' → IsLeft m pages count course first codes st' h' a' (at + 1)
 goes_next m pages count first at course codes st st' h h' a a' valid from lt l w b =
     let p = spot_at m st a h in
@@ -49,8 +49,8 @@ goes_next m pages count first at course codes st st' h h' a a' valid from lt l w
     }
 
 -- where it asks the host
-pub asks : (m : Module) (pages count first at : ℕ) (course : Course) (codes : List (Bor (List Instr))) (st st' : Store) (h h' : Held) (a a' : Active) (name : HostName) → Valid m → at < count
-    → IsLeft m pages count course first codes st h a at → HasAsked m (limited (unit_at m pages (spot_at m st a h))) st' h' name a' → IsBounded h' → HasStopped m course (at + 1) st' h' name a'
+pub asks : (m : Module) (pages count first at : ℕ) (course : Course) (codes : List (Bor (List Instr))) (st st' : Store) (h h' : Surroundings) (a a' : Active) (name : HostName) → Valid m → at < count
+    → IsLeft m pages count course first codes st h a at → AsksHost m (limited (unit_at m pages (spot_at m st a h))) st' h' name a' → IsBounded h' → HasStopped m course (at + 1) st' h' name a'
 asks m pages count first at course codes st st' h h' a a' name valid lt l w b =
     let p = spot_at m st a h in
     let o = limited (unit_at m pages p) in

@@ -39,10 +39,10 @@ use Rattle.wasm_frames.proofs.Resting.{same_frames}
 use Rattle.wasm_exec.specs.declared.machine.Machine.{Machine}
 use Rattle.wasm_exec.specs.declared.stops.Stop.{Stop}
 use Rattle.wasm_exec.specs.declared.stops.Stop.TheVariants as stop
-use Rattle.wasm_exec.specs.Asking.{has_answer, one_more, Answers}
+use Rattle.wasm_exec.specs.Asking.{has_answer, one_more, PutsAnswer}
 use Rattle.wasm_exec.specs.Going.{code_at}
 use Rattle.wasm_exec.specs.Resting.{thread_at_rest, AreAtRest, CanGoOn, AwaitsAnswer, Rests}
-use Rattle.wasm_exec.specs.Machines.{store_in, thread_of, Serves, Stops}
+use Rattle.wasm_exec.specs.Machines.{store_in, thread_of, FitsModule, StopsAs}
 use Rattle.wasm_exec.specs.Stopped.{call_in}
 use Rattle.wasm_exec.specs.Starting.{AreFirst}
 
@@ -122,7 +122,7 @@ operand_more m st h p ps values os v w lt =
     )
 
 -- the thread goes on behind the answer
-pub goes_on : (m : Module) (st : Store) (h : HostName) (p p' : Place) (ps : List Place) (values values' : List ℕ) (os : List Open) (answer : Option ℕ) → AwaitsAnswer m st h p ps values os → is_some answer ≡ has_answer h → Answers answer p values p' values'
+pub goes_on : (m : Module) (st : Store) (h : HostName) (p p' : Place) (ps : List Place) (values values' : List ℕ) (os : List Open) (answer : Option ℕ) → AwaitsAnswer m st h p ps values os → is_some answer ≡ has_answer h → PutsAnswer answer p values p' values'
     → (thread_at_rest m st (p' ∷ ps) values' os ≡ answered (thread_at_rest m st (p ∷ ps) values os) answer) × CanGoOn m st p' ps values' os
 goes_on m st h p p' ps values values' os None w e a =
     let t = thread_at_rest m st (p ∷ ps) values os in
@@ -210,7 +210,7 @@ started m n memory globals table p ps below values os e valid bytes gs ts zeros 
     subst (λ k. HasStarted k memory globals table p ps values os) e (record { thread = b.0; goes = b.1; maximum = sym (ap (λ (x : Contents). x.maximum) bytes) })
 
 -- what a run came to, of the machine
-pub stops_at : (m : Module) (course : Course) (used : ℕ) (why : Stop) (x : Machine) → Serves m x → Rests m course (store_in x) x.place x.places x.values.items x.opens used why → x.waits_for ≡ call_in why → Stops m course used why x
+pub stops_at : (m : Module) (course : Course) (used : ℕ) (why : Stop) (x : Machine) → FitsModule m x → Rests m course (store_in x) x.place x.places x.values.items x.opens used why → x.waits_for ≡ call_in why → StopsAs m course used why x
 unfolding thread_of
 stops_at m course used stop.Spent x s r e = (r.0, record { serves = s; none = e; goes = r.1 })
 stops_at m course used stop.Done x s r e = r

@@ -24,7 +24,7 @@ use Rattle.wasm_blocks.proofs.Cuts.{under_all}
 use Rattle.wasm_frames.specs.declared.active.Place.{Place}
 use Rattle.wasm_frames.specs.declared.active.Active.{Active}
 use Rattle.wasm_frames.specs.Resting.{body_of, frames_at_rest}
-use Rattle.wasm_frames.specs.Standing.{Held, held, thread_in, IsStanding, IsPlaced}
+use Rattle.wasm_frames.specs.Standing.{Surroundings, held, thread_in, IsStanding, IsPlaced}
 use Rattle.wasm_frames.specs.Turns.{IsBounded, IsCold}
 use Rattle.wasm_frames.proofs.Resting.{same_frames}
 use Rattle.wasm_exec.specs.declared.rounds.Halt.{Halt}
@@ -43,7 +43,7 @@ unfolding units
 units_are m pages count t = refl
 
 -- a run begins
-pub record HasBegun (m : Module) (pages count : ℕ) (st : Store) (t : Thread) (a : Active) (h : Held) : Type 0 where
+pub record HasBegun (m : Module) (pages count : ℕ) (st : Store) (t : Thread) (a : Active) (h : Surroundings) : Type 0 where
   pub is : units m pages t count ≡ units_from m pages 0 (count - 0) (thread_in m st a h)
   pub going : IsGoing m st a h
 
@@ -119,11 +119,11 @@ grows m st a ps cs values values' os ns g grown =
     )
 
 -- room was made, or code was found, and the same units are left
-pub left_on : (m : Module) (pages count first used : ℕ) (course : Course) (codes : List (Bor (List Instr))) (st : Store) (h : Held) (a : Active) (was : Halt) → Comes m pages count course first codes st h a used was → was ≡ halt.Full
+pub left_on : (m : Module) (pages count first used : ℕ) (course : Course) (codes : List (Bor (List Instr))) (st : Store) (h : Surroundings) (a : Active) (was : Halt) → Comes m pages count course first codes st h a used was → was ≡ halt.Full
     → IsLeft m pages count course first codes st h a used × (used < count) × (length h.values < 65536)
 left_on m pages count first used course codes st h a was g e = subst (Comes m pages count course first codes st h a used) e g
 
-pub cold_on : (m : Module) (pages count first used : ℕ) (course : Course) (codes : List (Bor (List Instr))) (st : Store) (h : Held) (a : Active) (was : Halt) → Comes m pages count course first codes st h a used was → was ≡ halt.Cold
+pub cold_on : (m : Module) (pages count first used : ℕ) (course : Course) (codes : List (Bor (List Instr))) (st : Store) (h : Surroundings) (a : Active) (was : Halt) → Comes m pages count course first codes st h a used was → was ≡ halt.Cold
     → IsLeft m pages count course first codes st h a used × (used < count) × IsCold h
 cold_on m pages count first used course codes st h a was g e = subst (Comes m pages count course first codes st h a used) e g
 
@@ -141,16 +141,16 @@ warmed m st a ps ps' cs cs' values os ns ns' g w = (
 )
 
 -- the frame waits
-abbrev Waits : Module → Course → Store → Active → Held → Place → ℕ → Stop → Type 0
+abbrev Waits : Module → Course → Store → Active → Surroundings → Place → ℕ → Stop → Type 0
 Waits m course st a h p used why = p ≡ place_of a → Rests m course st p h.places h.values h.opens used why
 
-at_rest : (m : Module) (a : Active) (h : Held) → IsStanding a h → IsPlaced m a h → IsBounded h → AreAtRest (place_of a) h.places h.values h.opens
+at_rest : (m : Module) (a : Active) (h : Surroundings) → IsStanding a h → IsPlaced m a h → IsBounded h → AreAtRest (place_of a) h.places h.values h.opens
 at_rest m a h s pl b = record { resting = (record { within = s.here.within; low = s.here.low; tower = s.here.tower; begins = s.begins }, s.below); size = b.values; frames = b.frames; blocks = b.blocks }
 
-by_place : (m : Module) (course : Course) (st : Store) (a : Active) (h : Held) (p : Place) (used : ℕ) (why : Stop) → Rests m course st (place_of a) h.places h.values h.opens used why → Waits m course st a h p used why
+by_place : (m : Module) (course : Course) (st : Store) (a : Active) (h : Surroundings) (p : Place) (used : ℕ) (why : Stop) → Rests m course st (place_of a) h.places h.values h.opens used why → Waits m course st a h p used why
 by_place m course st a h p used why r e = subst (λ q. Rests m course st q h.places h.values h.opens used why) (sym e) r
 
-pub spends : (m : Module) (course : Course) (used : ℕ) (st : Store) (a : Active) (h : Held) (p : Place) → (course ≡ ended used (Goes (thread_in m st a h))) → IsGoing m st a h → Waits m course st a h p used stop.Spent
+pub spends : (m : Module) (course : Course) (used : ℕ) (st : Store) (a : Active) (h : Surroundings) (p : Place) → (course ≡ ended used (Goes (thread_in m st a h))) → IsGoing m st a h → Waits m course st a h p used stop.Spent
 spends m course used st a h p e g =
     let r = (rests m st a h g.stands g.placed).0 in
     by_place m course st a h p used stop.Spent (
@@ -169,17 +169,17 @@ few_results Reply = omega arith
 few_results OwnLabel = omega arith
 few_results Release = omega arith
 
-abbrev args_of : Held → Active → HostName → List ℕ
+abbrev args_of : Surroundings → Active → HostName → List ℕ
 args_of h a name = let sp = a.hot.marks.sp in locals_in sp (sp + length (host_params name)) h.values
 
 -- its arguments have their types
-pub call_of : (m : Module) (course : Course) (used : ℕ) (st : Store) (h : Held) (name : HostName) (a : Active) → HasStopped m course used st h name a → IsCall m name (args_of h a name) (thread_in m st a h)
+pub call_of : (m : Module) (course : Course) (used : ℕ) (st : Store) (h : Surroundings) (name : HostName) (a : Active) → HasStopped m course used st h name a → IsCall m name (args_of h a name) (thread_in m st a h)
 call_of m course used st h name a s = subst (Sound m) s.asked.is s.sound
 
-pub asked_room : (m : Module) (course : Course) (used : ℕ) (st : Store) (h : Held) (name : HostName) (a : Active) → HasStopped m course used st h name a → a.hot.marks.sp + length (host_params name) ≤ length h.values
+pub asked_room : (m : Module) (course : Course) (used : ℕ) (st : Store) (h : Surroundings) (name : HostName) (a : Active) → HasStopped m course used st h name a → a.hot.marks.sp + length (host_params name) ≤ length h.values
 asked_room m course used st h name a s = s.asked.room
 
-pub calls : (m : Module) (course : Course) (used : ℕ) (st : Store) (a : Active) (h : Held) (p : Place) (name : HostName) (asked : Asked) → HasStopped m course used st h name a → asked.name ≡ name → asked.args ≡ in_four_places (args_of h a name)
+pub calls : (m : Module) (course : Course) (used : ℕ) (st : Store) (a : Active) (h : Surroundings) (p : Place) (name : HostName) (asked : Asked) → HasStopped m course used st h name a → asked.name ≡ name → asked.args ≡ in_four_places (args_of h a name)
     → Waits m course st a h p used (stop.Call asked)
 calls m course used st a h p name asked s named four =
     let r = (rests m st a h s.asked.stands s.asked.placed).0 in
@@ -203,25 +203,25 @@ calls m course used st a h p name asked s named four =
 by_course : (m : Module) (course course' : Course) (st : Store) (p : Place) (ps : List Place) (values : List ℕ) (os : List Open) (used : ℕ) (why : Stop) → course ≡ course' → Rests m course' st p ps values os used why → Rests m course st p ps values os used why
 by_course m course course' st p ps values os used why e r = subst (λ x. Rests m x st p ps values os used why) (sym e) r
 
-pub ends_spent : (m : Module) (pages count first used : ℕ) (course course' : Course) (codes : List (Bor (List Instr))) (st : Store) (h : Held) (a : Active) (was : Halt) (p : Place) → course ≡ course' → Comes m pages count course' first codes st h a used was → was ≡ halt.Spent
+pub ends_spent : (m : Module) (pages count first used : ℕ) (course course' : Course) (codes : List (Bor (List Instr))) (st : Store) (h : Surroundings) (a : Active) (was : Halt) (p : Place) → course ≡ course' → Comes m pages count course' first codes st h a used was → was ≡ halt.Spent
     → p ≡ place_of a → Rests m course st p h.places h.values h.opens used stop.Spent
 ends_spent m pages count first used course course' codes st h a was p e g w at =
     let s = subst (Comes m pages count course' first codes st h a used) w g in
     by_course m course course' st p h.places h.values h.opens used stop.Spent e (spends m course' used st a h p s.0 s.1 at)
 
-pub ends_done : (m : Module) (pages count first used : ℕ) (course course' : Course) (codes : List (Bor (List Instr))) (st : Store) (h : Held) (a : Active) (was : Halt) → course ≡ course' → Comes m pages count course' first codes st h a used was → was ≡ halt.Done
+pub ends_done : (m : Module) (pages count first used : ℕ) (course course' : Course) (codes : List (Bor (List Instr))) (st : Store) (h : Surroundings) (a : Active) (was : Halt) → course ≡ course' → Comes m pages count course' first codes st h a used was → was ≡ halt.Done
     → course ≡ ended used Done
 ends_done m pages count first used course course' codes st h a was e g w = e ∙ subst (Comes m pages count course' first codes st h a used) w g
 
-pub ends_trapped : (m : Module) (pages count first used : ℕ) (course course' : Course) (codes : List (Bor (List Instr))) (st : Store) (h : Held) (a : Active) (was : Halt) (t : Trap) → course ≡ course' → Comes m pages count course' first codes st h a used was
+pub ends_trapped : (m : Module) (pages count first used : ℕ) (course course' : Course) (codes : List (Bor (List Instr))) (st : Store) (h : Surroundings) (a : Active) (was : Halt) (t : Trap) → course ≡ course' → Comes m pages count course' first codes st h a used was
     → was ≡ halt.Trapped t → course ≡ ended used (Trapped t)
 ends_trapped m pages count first used course course' codes st h a was t e g w = e ∙ subst (Comes m pages count course' first codes st h a used) w g
 
-pub stopped : (m : Module) (pages count first used : ℕ) (course' : Course) (codes : List (Bor (List Instr))) (st : Store) (h : Held) (a : Active) (was : Halt) (name : HostName) → Comes m pages count course' first codes st h a used was
+pub stopped : (m : Module) (pages count first used : ℕ) (course' : Course) (codes : List (Bor (List Instr))) (st : Store) (h : Surroundings) (a : Active) (was : Halt) (name : HostName) → Comes m pages count course' first codes st h a used was
     → was ≡ halt.Asks name → HasStopped m course' used st h name a
 stopped m pages count first used course' codes st h a was name g w = subst (Comes m pages count course' first codes st h a used) w g
 
-pub ends_asked : (m : Module) (used : ℕ) (course course' : Course) (st : Store) (h : Held) (a : Active) (p : Place) (name : HostName) (asked : Asked) → course ≡ course' → HasStopped m course' used st h name a
+pub ends_asked : (m : Module) (used : ℕ) (course course' : Course) (st : Store) (h : Surroundings) (a : Active) (p : Place) (name : HostName) (asked : Asked) → course ≡ course' → HasStopped m course' used st h name a
     → asked.name ≡ name → asked.args ≡ in_four_places (args_of h a name) → p ≡ place_of a → Rests m course st p h.places h.values h.opens used (stop.Call asked)
 ends_asked m used course course' st h a p name asked e s named four at =
     by_course m course course' st p h.places h.values h.opens used (stop.Call asked) e (calls m course' used st a h p name asked s named four at)

@@ -19,7 +19,7 @@ use Rattle.wasm_blocks.proofs.Cuts.{length_above, length_under, under_all}
 use Rattle.wasm_frames.specs.declared.active.Place.{Place}
 use Rattle.wasm_frames.specs.declared.active.Active.{Active}
 use Rattle.wasm_frames.specs.Resting.{body_of, frame_in, frame_at_rest, frames_at_rest, BeginsAt, AreResting}
-use Rattle.wasm_frames.specs.Standing.{Held, held, thread_in, nexts_under, IsStanding, IsPlaced}
+use Rattle.wasm_frames.specs.Standing.{Surroundings, held, thread_in, nexts_under, IsStanding, IsPlaced}
 use Rattle.wasm_frames.proofs.Resting.{last_of_end, frame_warm}
 use Rattle.wasm_exec.specs.Codes.{HasLaid}
 use Rattle.wasm_exec.specs.Going.{active_at, place_of, code_at, HasWarmed}
@@ -81,7 +81,7 @@ wakes m st p ps code values os ns r e l =
     )
 
 -- a frame that waits again
-pub rests : (m : Module) (st : Store) (a : Active) (h : Held) → IsStanding a h → IsPlaced m a h
+pub rests : (m : Module) (st : Store) (a : Active) (h : Surroundings) → IsStanding a h → IsPlaced m a h
     → (thread_at_rest m st (place_of a ∷ h.places) h.values h.opens ≡ thread_in m st a h) × AreResting (place_of a ∷ h.places) h.values h.opens
 rests m st a h s pl = (
   ap (λ f. record { store = st; frames = f ∷ frames_at_rest m h.places h.values (under a.hot.low h.opens) }) (frame_warm m (place_of a) a.hot.code h.values h.opens h.nexts refl pl.here),

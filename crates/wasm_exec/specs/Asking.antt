@@ -14,7 +14,7 @@ abbrev pub one_more : Place → Place
 one_more p = record { marks = raised p.marks (p.marks.sp + 1); left = p.left; low = p.low; function = p.function; gives = p.gives }
 
 -- an answer, where there is one and a place for it, becomes the topmost operand
-abbrev pub Answers : Option ℕ → Place → List ℕ → Place → List ℕ → Type 0
-Answers None p values p' values' = (p' ≡ p) × (values' ≡ values)
-Answers (Some v) p values p' values' =
+abbrev pub PutsAnswer : Option ℕ → Place → List ℕ → Place → List ℕ → Type 0
+PutsAnswer None p values p' values' = (p' ≡ p) × (values' ≡ values)
+PutsAnswer (Some v) p values p' values' =
     (v < 2 ^ 32) × (p.marks.sp < length values → (p' ≡ one_more p) × (values' ≡ slice_set values p.marks.sp v))

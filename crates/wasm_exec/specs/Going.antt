@@ -11,7 +11,7 @@ use Rattle.wasm_blocks.specs.Rest.{last, code_in}
 use Rattle.wasm_frames.specs.declared.active.Place.{Place}
 use Rattle.wasm_frames.specs.declared.active.Active.{Active}
 use Rattle.wasm_frames.specs.Resting.{body_of}
-use Rattle.wasm_frames.specs.Standing.{Held, thread_in, IsStanding, IsPlaced}
+use Rattle.wasm_frames.specs.Standing.{Surroundings, thread_in, IsStanding, IsPlaced}
 use Rattle.wasm_frames.specs.Turns.{IsBounded}
 
 -- the frame at a place, as it runs with this code
@@ -27,14 +27,14 @@ abbrev pub code_at : Module → Place → List Open → List Instr
 code_at m p opens = last (code_in (body_of m p.function) (above p.low opens)) p.left
 
 -- a thread of the module is in the middle of a run
-pub record IsGoing (m : Module) (st : Store) (a : Active) (h : Held) : Type 0 where
+pub record IsGoing (m : Module) (st : Store) (a : Active) (h : Surroundings) : Type 0 where
   pub of : IsOf m (thread_in m st a h)
   pub stands : IsStanding a h
   pub placed : IsPlaced m a h
   pub bounded : IsBounded h
 
 -- the same thread, with the code of the frame below at hand
-pub record HasWarmed (m : Module) (a : Active) (was h : Held) : Type 0 where
+pub record HasWarmed (m : Module) (a : Active) (was h : Surroundings) : Type 0 where
   pub thread : (st : Store) → thread_in m st a h ≡ thread_in m st a was
   pub stands : IsStanding a h
   pub placed : IsPlaced m a h

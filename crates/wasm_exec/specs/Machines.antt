@@ -30,19 +30,19 @@ unfoldable pub thread_of : Module → Machine → Thread
 thread_of m x = thread_at_rest m (store_in x) (x.place ∷ x.places) x.values.items x.opens
 
 -- what a machine knows of the module, and its memory never has more pages than the module lets it have
-pub record Serves (m : Module) (x : Machine) : Type 0 where
+pub record FitsModule (m : Module) (x : Machine) : Type 0 where
   pub callees : AreCallees m x.callees.items
   pub maximum : page_limit m ≡ x.memory.maximum
 
 -- its thread is of the module and can go on; it waits for no answer
 pub record IsReady (m : Module) (x : Machine) : Type 0 where
-  pub serves : Serves m x
+  pub serves : FitsModule m x
   pub none : x.waits_for ≡ None
   pub goes : CanGoOn m (store_in x) x.place x.places x.values.items x.opens
 
 -- its thread waits for the answer of this call
 pub record IsWaiting (m : Module) (h : HostName) (x : Machine) : Type 0 where
-  pub serves : Serves m x
+  pub serves : FitsModule m x
   pub some : x.waits_for ≡ Some h
   pub waits : AwaitsAnswer m (store_in x) h x.place x.places x.values.items x.opens
 
@@ -54,9 +54,9 @@ pub record HasAsked (m : Module) (course : Course) (used : ℕ) (asked : Asked) 
   pub waits : IsWaiting m asked.name x
 
 -- what a run of units came to
-abbrev pub Stops : Module → Course → ℕ → Stop → Machine → Type 0
-Stops m course used stop.Spent x = (course ≡ ended used (Goes (thread_of m x))) × IsReady m x
-Stops m course used stop.Done x = course ≡ ended used Done
-Stops m course used (stop.Trapped t) x = course ≡ ended used (Trapped t)
-Stops m course used (stop.Call asked) x = HasAsked m course used asked x
-Stops m course used stop.NoMemory x = Unit {0}
+abbrev pub StopsAs : Module → Course → ℕ → Stop → Machine → Type 0
+StopsAs m course used stop.Spent x = (course ≡ ended used (Goes (thread_of m x))) × IsReady m x
+StopsAs m course used stop.Done x = course ≡ ended used Done
+StopsAs m course used (stop.Trapped t) x = course ≡ ended used (Trapped t)
+StopsAs m course used (stop.Call asked) x = HasAsked m course used asked x
+StopsAs m course used stop.NoMemory x = Unit {0}

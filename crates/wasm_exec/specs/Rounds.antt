@@ -8,8 +8,8 @@ use Rattle.wasm_semantics.specs.Threads.{Store, Outcome, Goes, Trapped, Done}
 use Rattle.wasm_semantics.specs.Units.{Course, units_from}
 use Rattle.wasm_semantics.specs.OfModule.{Sound}
 use Rattle.wasm_frames.specs.declared.active.Active.{Active}
-use Rattle.wasm_frames.specs.Standing.{Held, thread_in}
-use Rattle.wasm_frames.specs.Turns.{HasAsked, IsBounded, IsCold}
+use Rattle.wasm_frames.specs.Standing.{Surroundings, thread_in}
+use Rattle.wasm_frames.specs.Turns.{AsksHost, IsBounded, IsCold}
 use Rattle.wasm_exec.specs.declared.rounds.Halt.{Halt}
 use Rattle.wasm_exec.specs.declared.rounds.Halt.TheVariants as halt
 use Rattle.wasm_exec.specs.Going.{IsGoing}
@@ -20,21 +20,21 @@ ended used o = record { used = used; stop = o }
 
 -- the units that are left of a course are those of this thread; where none were done, the same code is at hand as before
 pub record IsLeft (m : Module) (pages count : ℕ) (course : Course) (first : ℕ) (codes : List (Bor (List Instr)))
-    (st : Store) (h : Held) (a : Active) (used : ℕ) : Type 0 where
+    (st : Store) (h : Surroundings) (a : Active) (used : ℕ) : Type 0 where
   pub is : course ≡ units_from m pages used (count - used) (thread_in m st a h)
   pub going : IsGoing m st a h
   pub still : used ≡ first → h.codes ≡ codes
 
 -- a frame that asked the host waits for the answer
-pub record HasStopped (m : Module) (course : Course) (used : ℕ) (st : Store) (h : Held) (name : HostName) (a : Active) : Type 0 where
+pub record HasStopped (m : Module) (course : Course) (used : ℕ) (st : Store) (h : Surroundings) (name : HostName) (a : Active) : Type 0 where
   pub outcome : Outcome
   pub is : course ≡ ended used outcome
-  pub asked : HasAsked m outcome st h name a
+  pub asked : AsksHost m outcome st h name a
   pub sound : Sound m outcome
   pub bounded : IsBounded h
 
 -- what was answered is the course, or there are units left
-abbrev pub Comes : Module → ℕ → ℕ → Course → ℕ → List (Bor (List Instr)) → Store → Held → Active → ℕ → Halt → Type 0
+abbrev pub Comes : Module → ℕ → ℕ → Course → ℕ → List (Bor (List Instr)) → Store → Surroundings → Active → ℕ → Halt → Type 0
 Comes m pages count course first codes st h a used halt.Spent = (course ≡ ended used (Goes (thread_in m st a h))) × IsGoing m st a h
 Comes m pages count course first codes st h a used halt.Done = course ≡ ended used Done
 Comes m pages count course first codes st h a used (halt.Trapped t) = course ≡ ended used (Trapped t)

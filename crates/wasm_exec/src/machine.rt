@@ -8,7 +8,7 @@ ghost use Rattle.wasm_memory.specs.Contents.{after, refused};
 ghost use Rattle.wasm_semantics.specs.Units.{units as units_of, with_memory, answered};
 ghost use Rattle.wasm_semantics.specs.Begin.{begin as beginning};
 ghost use Rattle.wasm_exec.specs.Asking.{has_answer};
-ghost use Rattle.wasm_exec.specs.Machines.{memory_in, thread_of, IsReady, IsWaiting, Stops};
+ghost use Rattle.wasm_exec.specs.Machines.{memory_in, thread_of, IsReady, IsWaiting, StopsAs};
 
 use crate::answering::put_answer;
 use crate::beginnings::{globals_at_first, table_at_first};
@@ -86,7 +86,7 @@ impl Machine {
     pub fn run(&mut self, module: &ValidModule, pages: u32, units: u64) -> Ran
         requires { IsReady module.now self.old }
         ensures within { result.used ≤ units }
-        ensures stops { Stops module.now (units_of module.now pages (thread_of module.now self.old) units)
+        ensures stops { StopsAs module.now (units_of module.now pages (thread_of module.now self.old) units)
             result.used result.stop self.new }
     {
         let rested = run_units(

@@ -30,9 +30,9 @@ use Rattle.wasm_frames.specs.declared.active.Place.{Place}
 use Rattle.wasm_frames.specs.declared.active.Active.{Active}
 use Rattle.wasm_frames.specs.declared.callees.Entry.{Entry}
 use Rattle.wasm_frames.specs.Resting.{body_of, code_of, frames_at_rest, AreResting}
-use Rattle.wasm_frames.specs.Standing.{Held, held, spot_at, nexts_under, AreWarm, IsStanding, ArePlaced, IsPlaced}
+use Rattle.wasm_frames.specs.Standing.{Surroundings, held, spot_at, nexts_under, AreWarm, IsStanding, ArePlaced, IsPlaced}
 use Rattle.wasm_frames.specs.Callees.{IsEntry, IsHost}
-use Rattle.wasm_frames.specs.Turns.{Went, HasAsked}
+use Rattle.wasm_frames.specs.Turns.{Went, AsksHost}
 use Rattle.wasm_frames.proofs.Resting.{same_frames, frame_warm}
 use Rattle.wasm_frames.proofs.FewerOperands.{own_operands, with_sp, sp_room, fewer_stands, fewer_placed, spot_lowered, args_behind}
 
@@ -85,9 +85,9 @@ pub not_there : (n k : ℕ) → false ≡ nat_lt k n → k < n → ⊥
 not_there n k e lt = grind (arith, nat_tests)
 
 -- the host is asked
-pub call_asks : (m : Module) (st : Store) (a : Active) (h : Held) (x n : ℕ) (name : HostName) → IsHost m x n name → IsStanding a h → IsPlaced m a h
+pub call_asks : (m : Module) (st : Store) (a : Active) (h : Surroundings) (x n : ℕ) (name : HostName) → IsHost m x n name → IsStanding a h → IsPlaced m a h
     → n ≤ length (values_in (above a.hot.low h.opens) (own_operands a h))
-    → (let p = spot_at m st a h in HasAsked m (call m x p p.level.values) st h name (with_sp a (a.hot.marks.sp - n)))
+    → (let p = spot_at m st a h in AsksHost m (call m x p p.level.values) st h name (with_sp a (a.hot.marks.sp - n)))
 call_asks m st a h x n name i s pl le =
     let p = spot_at m st a h in
     let vs = p.level.values in
@@ -141,7 +141,7 @@ waiting a n = record { marks = raised a.hot.marks (a.hot.marks.sp - n); left = l
 abbrev pub beginning : Entry → Bor (List Instr) → Marks → ℕ → Active
 beginning e code marks low = record { hot = record { code = code; marks = marks; low = low }; function = e.function; gives = e.gives }
 
-pub call_own : (m : Module) (st : Store) (a : Active) (h : Held) (x n : ℕ) (e : Entry) (i : IsEntry m x n e) → n ≤ length (values_in (above a.hot.low h.opens) (own_operands a h))
+pub call_own : (m : Module) (st : Store) (a : Active) (h : Surroundings) (x n : ℕ) (e : Entry) (i : IsEntry m x n e) → n ≤ length (values_in (above a.hot.low h.opens) (own_operands a h))
     → (let p = spot_at m st a h in call m x p p.level.values ≡ opened i.function p (take n p.level.values) (drop n p.level.values))
 call_own m st a h x n e i le =
     let p = spot_at m st a h in
@@ -162,7 +162,7 @@ no_nexts_over : (os : List Open) (ns : List (Bor (List Instr))) → nexts_under 
 no_nexts_over os ns = let none : length os - length os ≡ 0 = omega arith in ap (λ k. drop k ns) none
 
 -- the frame that called, as it waits
-caller_waits : (m : Module) (st : Store) (a : Active) (h : Held) (values' : List ℕ) (n declared : ℕ) (marks : Marks) → IsStanding a h → IsPlaced m a h → n ≤ length (values_in (above a.hot.low h.opens) (own_operands a h))
+caller_waits : (m : Module) (st : Store) (a : Active) (h : Surroundings) (values' : List ℕ) (n declared : ℕ) (marks : Marks) → IsStanding a h → IsPlaced m a h → n ≤ length (values_in (above a.hot.low h.opens) (own_operands a h))
     → Opened a n declared h.values values' marks
     → (let p = spot_at m st a h in (behind p (drop n p.level.values)).frames ≡ frames_at_rest m (waiting a n ∷ h.places) values' h.opens)
     × AreResting (waiting a n ∷ h.places) values' h.opens
@@ -197,7 +197,7 @@ caller_waits m st a h values' n declared marks s pl le o =
       ),
     )
 
-call_at : (m : Module) (st : Store) (a : Active) (h : Held) (x n : ℕ) (e : Entry) (values' : List ℕ) (code : Bor (List Instr)) (marks : Marks) → IsEntry m x n e → IsStanding a h → IsPlaced m a h
+call_at : (m : Module) (st : Store) (a : Active) (h : Surroundings) (x n : ℕ) (e : Entry) (values' : List ℕ) (code : Bor (List Instr)) (marks : Marks) → IsEntry m x n e → IsStanding a h → IsPlaced m a h
     → n ≤ length (values_in (above a.hot.low h.opens) (own_operands a h)) → code.now ≡ body_of m e.function → Opened a n e.declared h.values values' marks
     → (let p = spot_at m st a h in
     Went m (call m x p p.level.values) st (held (waiting a n ∷ h.places) (a.hot.code ∷ h.codes) values' h.opens h.nexts) (beginning e code marks (length h.opens)))
@@ -261,7 +261,7 @@ call_at m st a h x n e values' code marks i s pl le c o =
       };
     }
 
-pub call_goes : (m : Module) (st : Store) (a : Active) (h : Held) (x n : ℕ) (e : Entry) (ps : List Place) (cs : List (Bor (List Instr))) (values' : List ℕ) (code : Bor (List Instr)) (marks k : Marks) (low : ℕ)
+pub call_goes : (m : Module) (st : Store) (a : Active) (h : Surroundings) (x n : ℕ) (e : Entry) (ps : List Place) (cs : List (Bor (List Instr))) (values' : List ℕ) (code : Bor (List Instr)) (marks k : Marks) (low : ℕ)
     → ps ≡ record { marks = k; left = length a.hot.code.now; low = a.hot.low; function = a.function; gives = a.gives } ∷ h.places → k ≡ raised a.hot.marks (a.hot.marks.sp - n)
     → cs ≡ a.hot.code ∷ h.codes → low ≡ length h.opens
     → IsEntry m x n e → IsStanding a h → IsPlaced m a h → n ≤ length (values_in (above a.hot.low h.opens) (own_operands a h)) → code.now ≡ body_of m e.function → Opened a n e.declared h.values values' marks

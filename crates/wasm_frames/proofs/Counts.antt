@@ -24,7 +24,7 @@ use Rattle.wasm_frames.specs.declared.active.Place.{Place}
 use Rattle.wasm_frames.specs.declared.active.Active.{Active}
 use Rattle.wasm_frames.specs.declared.callees.Entry.{Entry}
 use Rattle.wasm_frames.specs.Resting.{body_of, frames_at_rest, BeginsAt, AreResting}
-use Rattle.wasm_frames.specs.Standing.{Held, spot_at, thread_in, IsStanding}
+use Rattle.wasm_frames.specs.Standing.{Surroundings, spot_at, thread_in, IsStanding}
 use Rattle.wasm_frames.specs.Callees.{IsEntry}
 use Rattle.wasm_frames.specs.Turns.{IsPast, IsBounded}
 use Rattle.wasm_frames.proofs.FewerOperands.{own_operands, with_sp, sp_room, fewer_stands, spot_lowered}
@@ -63,7 +63,7 @@ rest_count : (m : Module) (ps : List Place) (values : List ℕ) (os : List Open)
 rest_count m [] values os = refl
 rest_count m (p ∷ ps) values os = omega (arith, rest_count m ps values (under p.low os))
 
-pub thread_values : (m : Module) (st : Store) (a : Active) (h : Held) → IsStanding a h → values_of (thread_in m st a h).frames ≡ a.hot.marks.sp
+pub thread_values : (m : Module) (st : Store) (a : Active) (h : Surroundings) → IsStanding a h → values_of (thread_in m st a h).frames ≡ a.hot.marks.sp
 thread_values m st a h s =
     let k = a.hot.marks in
     let w = s.here.within in
@@ -72,14 +72,14 @@ thread_values m st a h s =
     let below = rest_values m h.places h.values (under a.hot.low h.opens) k.base s.begins s.below in
     omega (arith, here, below, length_locals k.base k.floor h.values (omega (arith, w.operands, w.room)), w.locals, w.operands)
 
-thread_blocks : (m : Module) (st : Store) (a : Active) (h : Held) → IsStanding a h → blocks_of (thread_in m st a h).frames ≡ length h.opens
+thread_blocks : (m : Module) (st : Store) (a : Active) (h : Surroundings) → IsStanding a h → blocks_of (thread_in m st a h).frames ≡ length h.opens
 thread_blocks m st a h s =
     let low = a.hot.low in
     let own = above low h.opens in
     let here = levels_count (own_nexts low h.opens h.nexts) own (own_operands a h) in
     omega (arith, here, rest_blocks m h.places h.values (under low h.opens) s.below, length_above low h.opens, length_under low h.opens s.here.low, s.here.low)
 
-thread_count : (m : Module) (st : Store) (a : Active) (h : Held) → length (thread_in m st a h).frames ≡ length h.places + 1
+thread_count : (m : Module) (st : Store) (a : Active) (h : Surroundings) → length (thread_in m st a h).frames ≡ length h.places + 1
 thread_count m st a h = omega (arith, rest_count m h.places h.values (under a.hot.low h.opens))
 
 zeros_long : (ts : List ValType) → length (zeros ts) ≡ length ts
@@ -87,7 +87,7 @@ zeros_long [] = refl
 zeros_long (t ∷ ts) = omega (arith, zeros_long ts)
 
 -- more locals than there is room for
-pub past_call : (m : Module) (st : Store) (a : Active) (h : Held) (x n : ℕ) (e : Entry) → IsEntry m x n e → IsStanding a h → n ≤ length (values_in (above a.hot.low h.opens) (own_operands a h))
+pub past_call : (m : Module) (st : Store) (a : Active) (h : Surroundings) (x n : ℕ) (e : Entry) → IsEntry m x n e → IsStanding a h → n ≤ length (values_in (above a.hot.low h.opens) (own_operands a h))
     → length h.values - a.hot.marks.sp < e.declared → (let p = spot_at m st a h in IsPast (call m x p p.level.values) h)
 past_call m st a h x n e i s le more =
     let p = spot_at m st a h in
@@ -136,29 +136,29 @@ calls_if name args t h = ap (λ b. if b then Trapped trap.Stack else Calls name 
 traps_if : (t : Thread) → too_much t ≡ true → limited (Goes t) ≡ Trapped trap.Stack
 traps_if t h = ap (λ b. if b then Trapped trap.Stack else Goes t) h
 
-within : (m : Module) (st : Store) (a : Active) (h : Held) → IsStanding a h → IsBounded h → too_much (thread_in m st a h) ≡ false
+within : (m : Module) (st : Store) (a : Active) (h : Surroundings) → IsStanding a h → IsBounded h → too_much (thread_in m st a h) ≡ false
 within m st a h s w =
     let t = thread_in m st a h in
     few 65536 1024 16384 (values_of t.frames) (length t.frames) (blocks_of t.frames) (omega (arith, thread_values m st a h s, w.values, s.here.within.room))
     (omega (arith, thread_count m st a h, w.frames)) (omega (arith, thread_blocks m st a h s, w.blocks))
 
-pub goes_within : (m : Module) (st : Store) (a : Active) (h : Held) → IsStanding a h → IsBounded h → limited (Goes (thread_in m st a h)) ≡ Goes (thread_in m st a h)
+pub goes_within : (m : Module) (st : Store) (a : Active) (h : Surroundings) → IsStanding a h → IsBounded h → limited (Goes (thread_in m st a h)) ≡ Goes (thread_in m st a h)
 goes_within m st a h s w = goes_if (thread_in m st a h) (within m st a h s w)
 
-pub asks_within : (m : Module) (st : Store) (a : Active) (h : Held) (name : HostName) (args : List ℕ) → IsStanding a h → IsBounded h → limited (Calls name args (thread_in m st a h)) ≡ Calls name args (thread_in m st a h)
+pub asks_within : (m : Module) (st : Store) (a : Active) (h : Surroundings) (name : HostName) (args : List ℕ) → IsStanding a h → IsBounded h → limited (Calls name args (thread_in m st a h)) ≡ Calls name args (thread_in m st a h)
 asks_within m st a h name args s w = calls_if name args (thread_in m st a h) (within m st a h s w)
 
-pub traps_frames : (m : Module) (st : Store) (a : Active) (h : Held) → 1023 < length h.places → limited (Goes (thread_in m st a h)) ≡ Trapped trap.Stack
+pub traps_frames : (m : Module) (st : Store) (a : Active) (h : Surroundings) → 1023 < length h.places → limited (Goes (thread_in m st a h)) ≡ Trapped trap.Stack
 traps_frames m st a h more =
     let t = thread_in m st a h in
     traps_if t (many_second 65536 1024 16384 (values_of t.frames) (length t.frames) (blocks_of t.frames) (omega (arith, thread_count m st a h, more)))
 
-pub traps_blocks : (m : Module) (st : Store) (a : Active) (h : Held) → IsStanding a h → 16384 < length h.opens → limited (Goes (thread_in m st a h)) ≡ Trapped trap.Stack
+pub traps_blocks : (m : Module) (st : Store) (a : Active) (h : Surroundings) → IsStanding a h → 16384 < length h.opens → limited (Goes (thread_in m st a h)) ≡ Trapped trap.Stack
 traps_blocks m st a h s more =
     let t = thread_in m st a h in
     traps_if t (many_third 65536 1024 16384 (values_of t.frames) (length t.frames) (blocks_of t.frames) (omega (arith, thread_blocks m st a h s, more)))
 
-pub traps_past : (o : Outcome) (was : Held) → IsPast o was → 65536 ≤ length was.values → limited o ≡ Trapped trap.Stack
+pub traps_past : (o : Outcome) (was : Surroundings) → IsPast o was → 65536 ≤ length was.values → limited o ≡ Trapped trap.Stack
 traps_past o was past full =
     let t = past.thread in
     ap limited past.is ∙ traps_if t (many_first 65536 1024 16384 (values_of t.frames) (length t.frames) (blocks_of t.frames) (omega (arith, past.past, full)))

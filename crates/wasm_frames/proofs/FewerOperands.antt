@@ -17,7 +17,7 @@ use Rattle.wasm_blocks.specs.Runs.{own_nexts}
 use Rattle.wasm_blocks.proofs.Cuts.{length_above}
 use Rattle.wasm_blocks.proofs.Levels.{height_of, heights, spot_more}
 use Rattle.wasm_frames.specs.declared.active.Active.{Active}
-use Rattle.wasm_frames.specs.Standing.{Held, spot_at, IsStanding, IsPlaced}
+use Rattle.wasm_frames.specs.Standing.{Surroundings, spot_at, IsStanding, IsPlaced}
 
 -- with so many fewer on top
 pub spot_fewer : (a : Around) (code : List Instr) (nexts : List (List Instr)) (own : List Open) (ops : List ℕ) (n : ℕ) → height_of own + n ≤ length ops
@@ -39,7 +39,7 @@ tower_again : (own : List Open) (h h' : ℕ) → IsTower own h → height_of own
 tower_again [] h h' t le = tt
 tower_again (o ∷ os) h h' t le = (le, t.1)
 
-abbrev pub own_operands : Active → Held → List ℕ
+abbrev pub own_operands : Active → Surroundings → List ℕ
 own_operands a h = operands_in a.hot.marks.floor a.hot.marks.sp h.values
 
 -- the frame with the free places from here on
@@ -47,18 +47,18 @@ abbrev pub with_sp : Active → ℕ → Active
 with_sp a sp = record { hot = record { code = a.hot.code; marks = record { base = a.hot.marks.base; floor = a.hot.marks.floor; sp = sp }; low = a.hot.low }; function = a.function; gives = a.gives }
 
 -- so many operands lie above those of the blocks around
-pub own_room : (a : Active) (h : Held) (n : ℕ) → IsStanding a h → n ≤ length (values_in (above a.hot.low h.opens) (own_operands a h)) → height_of (above a.hot.low h.opens) + n ≤ length (own_operands a h)
+pub own_room : (a : Active) (h : Surroundings) (n : ℕ) → IsStanding a h → n ≤ length (values_in (above a.hot.low h.opens) (own_operands a h)) → height_of (above a.hot.low h.opens) + n ≤ length (own_operands a h)
 own_room a h n s le =
     let m = a.hot.marks in
     let own = above a.hot.low h.opens in
     height_room own (own_operands a h) n (omega (arith, heights own (m.sp - m.floor) s.here.tower, length_operands m.floor m.sp h.values s.here.within.room)) le
 
-pub sp_room : (a : Active) (h : Held) (n : ℕ) → IsStanding a h → n ≤ length (values_in (above a.hot.low h.opens) (own_operands a h)) → height_of (above a.hot.low h.opens) + n + a.hot.marks.floor ≤ a.hot.marks.sp
+pub sp_room : (a : Active) (h : Surroundings) (n : ℕ) → IsStanding a h → n ≤ length (values_in (above a.hot.low h.opens) (own_operands a h)) → height_of (above a.hot.low h.opens) + n + a.hot.marks.floor ≤ a.hot.marks.sp
 sp_room a h n s le =
     let m = a.hot.marks in
     omega (arith, own_room a h n s le, length_operands m.floor m.sp h.values s.here.within.room, s.here.within.operands)
 
-pub fewer_stands : (a : Active) (h : Held) (n : ℕ) → IsStanding a h → n ≤ length (values_in (above a.hot.low h.opens) (own_operands a h)) → IsStanding (with_sp a (a.hot.marks.sp - n)) h
+pub fewer_stands : (a : Active) (h : Surroundings) (n : ℕ) → IsStanding a h → n ≤ length (values_in (above a.hot.low h.opens) (own_operands a h)) → IsStanding (with_sp a (a.hot.marks.sp - n)) h
 fewer_stands a h n s le =
     let m = a.hot.marks in
     let w = s.here.within in
@@ -75,11 +75,11 @@ fewer_stands a h n s le =
       warm = s.warm;
     }
 
-pub fewer_placed : (m : Module) (a : Active) (h : Held) (sp : ℕ) → IsPlaced m a h → IsPlaced m (with_sp a sp) h
+pub fewer_placed : (m : Module) (a : Active) (h : Surroundings) (sp : ℕ) → IsPlaced m a h → IsPlaced m (with_sp a sp) h
 fewer_placed m a h sp pl = record { here = pl.here; below = pl.below }
 
 -- where the thread runs then
-pub spot_lowered : (m : Module) (st : Store) (a : Active) (h : Held) (n : ℕ) → IsStanding a h → n ≤ length (values_in (above a.hot.low h.opens) (own_operands a h))
+pub spot_lowered : (m : Module) (st : Store) (a : Active) (h : Surroundings) (n : ℕ) → IsStanding a h → n ≤ length (values_in (above a.hot.low h.opens) (own_operands a h))
     → (let p = spot_at m st a h in spot_with p (drop n p.level.values) a.hot.code.now ≡ spot_at m st (with_sp a (a.hot.marks.sp - n)) h)
 spot_lowered m st a h n s le =
     let k = a.hot.marks in

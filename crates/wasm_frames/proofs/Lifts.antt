@@ -9,7 +9,7 @@ use Rattle.wasm_data.specs.Cuts.{above, under}
 use Rattle.wasm_blocks.specs.declared.open.Open.{Open}
 use Rattle.wasm_blocks.specs.declared.hot.Hot.{Hot}
 use Rattle.wasm_blocks.specs.Rest.{Placed}
-use Rattle.wasm_blocks.specs.Runs.{Outer, own_nexts, place, GoesOn}
+use Rattle.wasm_blocks.specs.Runs.{Outer, own_nexts, place, GoesOnAnywhere}
 use Rattle.wasm_frames.specs.declared.active.Place.{Place}
 use Rattle.wasm_frames.specs.declared.active.Active.{Active}
 use Rattle.wasm_frames.specs.Resting.{body_of, frames_at_rest, BeginsAt, AreResting}
@@ -43,7 +43,7 @@ below_stays m a low base ps cs values values' os os' ns ns' s pl e e' deep long 
 
 pub lifts : (m : Module) (st : Store) (a : Active) (was now : Hot) (ps : List Place) (cs : List (Bor (List Instr))) (values values' : List ℕ) (os os' : List Open) (ns ns' : List (Bor (List Instr))) (out : Outer → Outcome)
     → IsStanding a (held ps cs values os ns) → IsPlaced m a (held ps cs values os ns) → was.low ≡ a.hot.low → was.marks.base ≡ a.hot.marks.base
-    → GoesOn out was now values values' os os' ns ns' → length values ≤ length values' → Placed (body_of m a.function) now.code.now (own_nexts now.low os' ns') (above now.low os')
+    → GoesOnAnywhere out was now values values' os os' ns ns' → length values ≤ length values' → Placed (body_of m a.function) now.code.now (own_nexts now.low os' ns') (above now.low os')
     → Went m (out (outer_of m st a (held ps cs values os ns))) st (held ps cs values' os' ns') (with_hot a now)
 lifts m st a was now ps cs values values' os os' ns ns' out s pl low base g long placed =
     let others : under now.low os' ≡ under a.hot.low os = ap (λ k. under k os') (g.low) ∙ (g.others ∙ ap (λ k. under k os) low) in

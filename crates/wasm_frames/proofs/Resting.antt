@@ -7,7 +7,7 @@ use Rattle.wasm_semantics.specs.Operators.{truth}
 use Rattle.wasm_semantics.specs.Threads.{Store, Frame, Goes}
 use Rattle.wasm_semantics.specs.Control.{thread_at, hand}
 use Rattle.wasm_data.specs.Cuts.{above, under}
-use Rattle.wasm_data.specs.Marked.{IsWithin, locals_in, operands_in}
+use Rattle.wasm_data.specs.Marked.{AreInArray, locals_in, operands_in}
 use Rattle.wasm_data.proofs.Opened.{locals_before, operands_before, take_before}
 use Rattle.wasm_blocks.specs.declared.open.Open.{Open}
 use Rattle.wasm_blocks.specs.Levels.{Around, level_in, levels_in, spot_in}
@@ -20,7 +20,7 @@ use Rattle.wasm_frames.specs.Resting.{body_of, frame_in, frame_at_rest, frames_a
 abbrev frame_by : ℕ → List Instr → List (List Instr) → List Open → List ℕ → List ℕ → Frame
 frame_by gives code nexts own locals operands = record { locals = locals; levels = level_in code nexts own operands ∷ levels_in nexts own operands; gives = gives }
 
-same_frame : (m : Module) (p : Place) (n : ℕ) (values values' : List ℕ) (os : List Open) → p.marks.sp ≤ n → IsWithin p.marks (length values) → take n values' ≡ take n values
+same_frame : (m : Module) (p : Place) (n : ℕ) (values values' : List ℕ) (os : List Open) → p.marks.sp ≤ n → AreInArray p.marks (length values) → take n values' ≡ take n values
     → frame_at_rest m p values' os ≡ frame_at_rest m p values os
 same_frame m p n values values' os le w deep =
     let k = p.marks in

@@ -31,16 +31,16 @@ pub record IsHost (m : Module) (x : ℕ) (params : ℕ) (h : HostName) : Type 0 
   pub takes : params ≡ length (host_params h)
 
 -- what runs when the function with this index is called
-abbrev pub IsRun : Module → ℕ → ℕ → Runs → Type 0
-IsRun m x params (runs.Host h) = IsHost m x params h
-IsRun m x params (runs.Own e) = IsEntry m x params e
+abbrev pub RunsWhenCalled : Module → ℕ → ℕ → Runs → Type 0
+RunsWhenCalled m x params (runs.Host h) = IsHost m x params h
+RunsWhenCalled m x params (runs.Own e) = IsEntry m x params e
 
 -- a row tells of the function with this index
 pub record IsCallee (m : Module) (x : ℕ) (c : Callee) : Type 0 where
   pub signature : FuncType
   pub is : slice_get m.types c.signature ≡ Some signature
   pub type : type_of m x ≡ Some signature
-  pub runs : IsRun m x c.params c.runs
+  pub runs : RunsWhenCalled m x c.params c.runs
 
 -- a row for each function
 pub record AreCallees (m : Module) (rows : List Callee) : Type 0 where

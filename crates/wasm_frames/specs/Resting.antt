@@ -6,7 +6,7 @@ use Rattle.wasm_ast.specs.declared.modules.Module.{Module}
 use Rattle.wasm_semantics.specs.Operators.{truth}
 use Rattle.wasm_semantics.specs.Threads.{Frame}
 use Rattle.wasm_data.specs.Cuts.{above, under}
-use Rattle.wasm_data.specs.Marked.{IsWithin, locals_in, operands_in}
+use Rattle.wasm_data.specs.Marked.{AreInArray, locals_in, operands_in}
 use Rattle.wasm_blocks.specs.declared.open.Open.{Open}
 use Rattle.wasm_blocks.specs.Levels.{level_in, levels_in, IsTower}
 use Rattle.wasm_blocks.specs.Rest.{last, code_in, nexts_in}
@@ -49,7 +49,7 @@ BeginsAt (p ∷ ps) base = p.marks.sp ≡ base
 
 -- a frame lies within the array, its blocks on top of those below
 pub record IsResting (p : Place) (values : List ℕ) (opens : List Open) (ps : List Place) : Type 0 where
-  pub within : IsWithin p.marks (length values)
+  pub within : AreInArray p.marks (length values)
   pub low : p.low ≤ length opens
   pub tower : IsTower (above p.low opens) (p.marks.sp - p.marks.floor)
   pub begins : BeginsAt ps p.marks.base

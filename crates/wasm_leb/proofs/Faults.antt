@@ -6,7 +6,7 @@ use Rattle.std.proofs.lemmas.List.Elements.{All-nil, All-cons, All-head, All-tai
 use Rattle.std.specs.Prelude.{nat_lt, if◌then◌else◌, ◌&&◌, is_ok}
 use Rattle.wasm_leb.specs.declared.error.LebError.{LebError}
 use Rattle.wasm_leb.specs.declared.error.LebError.TheVariants.{Short, Long}
-use Rattle.wasm_leb.specs.Leb.{last, under, leb, Spells, IsShort, IsLong, ends_u32, ends_s32, ends_s64}
+use Rattle.wasm_leb.specs.Leb.{last, under, leb, Spells, IsCutOff, IsLong, ends_u32, ends_s32, ends_s64}
 
 abbrev Found : Type 0
 Found = Result (ℕ × ℕ) LebError
@@ -77,14 +77,14 @@ Ends signed top (suc k) ends = (127 < top) × Ends signed (top / 128) k ends
 abbrev Goes : ℕ → Type 0
 Goes b = 128 ≤ b
 
-pub short_when : (signed : Bool) (top k : ℕ) (ends : ℕ → Bool) (bytes : List ℕ) → Ends signed top k ends → IsShort (suc k) bytes → leb signed top bytes ≡ Err Short
+pub short_when : (signed : Bool) (top k : ℕ) (ends : ℕ → Bool) (bytes : List ℕ) → Ends signed top k ends → IsCutOff (suc k) bytes → leb signed top bytes ≡ Err Short
 unfolding leb
 short_when signed top k ends [] m s = refl
 short_when signed top zero ends (b ∷ bytes) m s = absurd (omega (arith, s.0))
 short_when signed top (suc k) ends (b ∷ bytes) m s =
     goes_on signed top b bytes (All-head Goes b bytes s.1) m.0 ∙ ap (under b) (short_when signed (top / 128) k ends bytes m.1 (omega (arith, s.0), All-tail Goes b bytes s.1))
 
-pub when_short : (signed : Bool) (top k : ℕ) (ends : ℕ → Bool) (bytes : List ℕ) → Ends signed top k ends → leb signed top bytes ≡ Err Short → IsShort (suc k) bytes
+pub when_short : (signed : Bool) (top k : ℕ) (ends : ℕ → Bool) (bytes : List ℕ) → Ends signed top k ends → leb signed top bytes ≡ Err Short → IsCutOff (suc k) bytes
 when_short signed top k ends [] m e = (omega arith, All-nil Goes)
 when_short signed top zero ends (b ∷ bytes) m e = elim (cases_lt b 128) [
   | inl lt ↦ absurd (last_not_short signed top b (sym (ends_here signed top b bytes lt) ∙ e))
@@ -153,7 +153,7 @@ s64_is = (lit< tt, (lit< tt, (lit< tt, (lit< tt, (lit< tt, (lit< tt, (lit< tt, (
 
 -- both faults of a result that is the reading's, or has the same faults
 pub record Faults {X : Type 0} (ends : ℕ → Bool) (k : ℕ) (bytes : List ℕ) (r : Result X LebError) : Type 0 where
-  pub short : (r ≡ Err Short) ↔ IsShort (suc k) bytes
+  pub short : (r ≡ Err Short) ↔ IsCutOff (suc k) bytes
   pub long : (r ≡ Err Long) ↔ IsLong ends k bytes
 
 pub faults : (signed : Bool) (top k : ℕ) (ends : ℕ → Bool) (bytes : List ℕ) → Ends signed top k ends → Faults ends k bytes (leb signed top bytes)
@@ -176,7 +176,7 @@ ok_part {X} r x y d P h f = (
 
 -- a result with the same fault, or with none where the reading has none
 pub err_faults : {X : Type 0} (ends : ℕ → Bool) (k : ℕ) (bytes : List ℕ) (r : Found) (e : LebError) → Err e ≡ r → Faults ends k bytes r → Faults {X = X} ends k bytes (Err e)
-err_faults ends k bytes r e h f = record { short = err_part r e Short (IsShort (suc k) bytes) h f.short; long = err_part r e Long (IsLong ends k bytes) h f.long }
+err_faults ends k bytes r e h f = record { short = err_part r e Short (IsCutOff (suc k) bytes) h f.short; long = err_part r e Long (IsLong ends k bytes) h f.long }
 
 pub ok_faults : {X : Type 0} (ends : ℕ → Bool) (k : ℕ) (bytes : List ℕ) (r : Found) (x : X) (y : ℕ × ℕ) → Ok y ≡ r → Faults ends k bytes r → Faults {X = X} ends k bytes (Ok x)
-ok_faults ends k bytes r x y h f = record { short = ok_part r x y Short (IsShort (suc k) bytes) h f.short; long = ok_part r x y Long (IsLong ends k bytes) h f.long }
+ok_faults ends k bytes r x y h f = record { short = ok_part r x y Short (IsCutOff (suc k) bytes) h f.short; long = ok_part r x y Long (IsLong ends k bytes) h f.long }

@@ -2,7 +2,7 @@
 use Rattle.std.proofs.Common.{◌≡◌, ℕ, ◌+◌, ◌/◌, ◌%◌, ◌<◌, ◌≤◌, Bool, List, [], ◌∷◌, ◌++◌, length, append_assoc, Ok, ap, ◌∙◌, subst, arith}
 use Rattle.std.proofs.lemmas.List.Elements.{All-head, All-tail}
 use Rattle.std.specs.Prelude.{All}
-use Rattle.wasm_leb.specs.Leb.{last, leb, Spells, IsShortest, NeedsMore, Adds}
+use Rattle.wasm_leb.specs.Leb.{last, leb, Spells, IsShortest, NeedsMore, AddsShortest}
 use Rattle.wasm_leb.proofs.Roundtrip.{again, longer}
 
 one_least : (signed : Bool) (top n b : ℕ) (other : List ℕ) → Spells signed top n other → length (b ∷ []) ≤ length other
@@ -31,13 +31,13 @@ more_bytes signed top n front m s = record {
 }
 
 -- what was put after nothing is read again
-pub read_again : (signed : Bool) (top n : ℕ) (old new rest : List ℕ) → old ≡ [] → Adds signed top n old new → leb signed top (new ++ rest) ≡ Ok (n, length new)
+pub read_again : (signed : Bool) (top n : ℕ) (old new rest : List ℕ) → old ≡ [] → AddsShortest signed top n old new → leb signed top (new ++ rest) ≡ Ok (n, length new)
 read_again signed top n old new rest e a =
     let same : a.0 ≡ new = cc (e, a.2) in
     subst (λ (bytes : List ℕ). leb signed top (bytes ++ rest) ≡ Ok (n, length bytes)) same (again signed top n a.0 rest (a.1).spells)
 
 -- a byte that goes on, and then a shortest spelling of the rest
 pub adds_more : (signed : Bool) (top n : ℕ) (old between new : List ℕ) → NeedsMore signed top n → between ≡ old ++ (n % 128 + 128) ∷ []
-    → Adds signed (top / 128) (n / 128) between new → Adds signed top n old new
+    → AddsShortest signed (top / 128) (n / 128) between new → AddsShortest signed top n old new
 adds_more signed top n old between new m e a =
     ((n % 128 + 128) ∷ a.0, more_bytes signed top n a.0 m a.1, a.2 ∙ (ap (λ bytes. bytes ++ a.0) e ∙ append_assoc old ((n % 128 + 128) ∷ []) a.0))

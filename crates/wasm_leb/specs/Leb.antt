@@ -57,8 +57,8 @@ bits_of w (Ok found) = Ok (cast_unsigned w found.0, found.1)
 bits_of w (Err e) = Err e
 
 -- fewer than the greatest number of bytes are there, and each has its top bit set
-abbrev pub IsShort : ℕ → List ℕ → Type 0
-IsShort most bytes = (length bytes < most) × All (λ b. 128 ≤ b) bytes
+abbrev pub IsCutOff : ℕ → List ℕ → Type 0
+IsCutOff most bytes = (length bytes < most) × All (λ b. 128 ≤ b) bytes
 
 -- the last allowed byte is reached, behind this many with their top bits set, and may not end the number
 abbrev pub IsLong : (ℕ → Bool) → ℕ → List ℕ → Type 0
@@ -82,8 +82,8 @@ pub record IsShortest (signed : Bool) (top n : ℕ) (bytes : List ℕ) : Type 0 
   pub least : (other : List ℕ) → All (λ b. b < 256) other → Spells signed top n other → length bytes ≤ length other
 
 -- the new bytes are the old with a shortest spelling of the number at the end
-abbrev pub Adds : Bool → ℕ → ℕ → List ℕ → List ℕ → Type 0
-Adds signed top n old new = (front : List ℕ) × IsShortest signed top n front × (new ≡ old ++ front)
+abbrev pub AddsShortest : Bool → ℕ → ℕ → List ℕ → List ℕ → Type 0
+AddsShortest signed top n old new = (front : List ℕ) × IsShortest signed top n front × (new ≡ old ++ front)
 
 -- the number takes more than one byte
 abbrev pub NeedsMore : Bool → ℕ → ℕ → Type 0

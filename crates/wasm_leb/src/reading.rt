@@ -1,6 +1,6 @@
 ghost use Rattle.std.specs.Prelude.{◌≡◌, ◌≤◌, ◌<◌, ◌↔◌, length, IfOk, Ok};
 ghost use Rattle.std.specs.Int.{w32, w64};
-ghost use Rattle.wasm_leb.specs.Leb.{IsTop, leb, last, u32, s32, s64, signed_of, bits_of, IsShort, IsLong, ends_u32, ends_s32, ends_s64};
+ghost use Rattle.wasm_leb.specs.Leb.{IsTop, leb, last, u32, s32, s64, signed_of, bits_of, IsCutOff, IsLong, ends_u32, ends_s32, ends_s64};
 
 use crate::error::LebError;
 
@@ -58,7 +58,7 @@ fn read_number(bytes: &[u8], top: u64, signed: bool) -> Result<(u64, usize), Leb
 #[tactic(auto, using(crate::proofs::Tops::top32))]
 pub fn read_u32(bytes: &[u8]) -> Result<(u32, usize), LebError>
     ensures exact { result ≡ u32 bytes.now }
-    ensures short { (result ≡ Err LebError.Short) ↔ IsShort 5 bytes.now }
+    ensures short { (result ≡ Err LebError.Short) ↔ IsCutOff 5 bytes.now }
     ensures long { (result ≡ Err LebError.Long) ↔ IsLong ends_u32 4 bytes.now }
     ensures within { IfOk result (λ found. found.1 ≤ length bytes.now) }
 {
@@ -73,7 +73,7 @@ pub fn read_u32(bytes: &[u8]) -> Result<(u32, usize), LebError>
 pub fn read_s32(bytes: &[u8]) -> Result<(i32, usize), LebError>
     ensures exact { result ≡ signed_of w32 (s32 bytes.now) }
     ensures bits { bits_of w32 result ≡ s32 bytes.now }
-    ensures short { (result ≡ Err LebError.Short) ↔ IsShort 5 bytes.now }
+    ensures short { (result ≡ Err LebError.Short) ↔ IsCutOff 5 bytes.now }
     ensures long { (result ≡ Err LebError.Long) ↔ IsLong ends_s32 4 bytes.now }
     ensures within { IfOk result (λ found. found.1 ≤ length bytes.now) }
 {
@@ -88,7 +88,7 @@ pub fn read_s32(bytes: &[u8]) -> Result<(i32, usize), LebError>
 pub fn read_s64(bytes: &[u8]) -> Result<(i64, usize), LebError>
     ensures exact { result ≡ signed_of w64 (s64 bytes.now) }
     ensures bits { bits_of w64 result ≡ s64 bytes.now }
-    ensures short { (result ≡ Err LebError.Short) ↔ IsShort 10 bytes.now }
+    ensures short { (result ≡ Err LebError.Short) ↔ IsCutOff 10 bytes.now }
     ensures long { (result ≡ Err LebError.Long) ↔ IsLong ends_s64 9 bytes.now }
     ensures within { IfOk result (λ found. found.1 ≤ length bytes.now) }
 {

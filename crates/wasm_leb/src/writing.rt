@@ -1,6 +1,6 @@
 ghost use Rattle.std.specs.Prelude.{ℕ, ◌≡◌, ◌≤◌, ◌<◌, ◌+◌, ◌-◌, ◌*◌, ◌^◌, List, ◌++◌, length, IfSome, IfNone, Ok, true, false};
 ghost use Rattle.std.specs.Int.{w32, w64, cast_unsigned};
-ghost use Rattle.wasm_leb.specs.Leb.{Adds, NeedsMore, IsShortest, last, u32, s32, s64};
+ghost use Rattle.wasm_leb.specs.Leb.{AddsShortest, NeedsMore, IsShortest, last, u32, s32, s64};
 
 use crate::spelling::Leb;
 
@@ -28,7 +28,7 @@ fn only_byte(value: u64, top: u64, signed: bool) -> Option<u8>
 fn put(leb: &mut Leb, value: u64, top: u64, signed: bool)
     requires value { value ≤ top }
     requires room { (bits : ℕ) × (top + 1 ≡ 2 ^ bits) × (7 * length leb.old + bits ≤ 70) × (0 < bits) }
-    ensures { Adds signed top value leb.old leb.new }
+    ensures { AddsShortest signed top value leb.old leb.new }
 {
     match only_byte(value, top, signed) {
         Some(byte) => leb.push(byte),

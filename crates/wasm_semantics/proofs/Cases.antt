@@ -15,7 +15,7 @@ use Rattle.wasm_ast.specs.Operators.{Access, load_of}
 use Rattle.wasm_ast.specs.Bytes.{loaded, in_pages, grown}
 use Rattle.wasm_ast.specs.Typing.{context_of, Types}
 use Rattle.wasm_semantics.specs.declared.traps.Trap.TheVariants as trap
-use Rattle.wasm_semantics.specs.Data.{Effect, with_some, split, fetched, sized}
+use Rattle.wasm_semantics.specs.Data.{DataEffect, with_some, split, fetched, sized}
 use Rattle.wasm_semantics.specs.Threads.{Store, Frame, Thread, Goes, Trapped, Stuck, values_of, blocks_of}
 use Rattle.wasm_semantics.specs.Control.{Spot, first_frame, zeros, opened, call_of}
 use Rattle.wasm_semantics.specs.Units.{unit, limited, data_of, applied}
@@ -50,7 +50,7 @@ at_load bytes at = taken_at (memory_alone bytes) (frame (level (at ∷ []) load_
 abbrev word : Access
 word = record { val_type = I32; width = 4; signed = false }
 
-abbrev load_effect : List ℕ → ℕ → Bool → Effect
+abbrev load_effect : List ℕ → ℕ → Bool → DataEffect
 load_effect bytes at past = fetched (data_of (at_load bytes at)) word (if past then None else Some (loaded bytes (at + 0) 4)) []
 
 loads : (m : Module) (pages at : ℕ) (bytes : List ℕ) → length bytes ≡ 65536

@@ -16,7 +16,7 @@ use Rattle.wasm_ast.specs.Bytes.{in_pages}
 use Rattle.wasm_ast.specs.Memory.{memory_load, memory_store, memory_grow, memory_copy, memory_fill}
 use Rattle.wasm_ast.specs.Typing.{Context, Plain}
 use Rattle.wasm_semantics.specs.Operators.{operator_of, type_of_operator, compute, Computed, Number, Fails, Missing, read_as}
-use Rattle.wasm_semantics.specs.Data.{Data, Effect, Moves, Traps, Wrong, with_top, split, moves, computed, chosen, fetched, written, sized, effect_of}
+use Rattle.wasm_semantics.specs.Data.{Data, DataEffect, Moves, Traps, Wrong, with_top, split, moves, computed, chosen, fetched, written, sized, effect_of}
 use Rattle.wasm_semantics.specs.OfModule.{Fits, Holds, IsMemory}
 use Rattle.wasm_semantics.proofs.Values.{holds_get, holds_set}
 use Rattle.wasm_semantics.proofs.Combinators.{top_rule, some_rule, if_rule, split_rule}
@@ -29,7 +29,7 @@ pub record IsData (c : Context) (ts : List ValType) (d : Data) : Type 0 where
   pub locals : Holds c.locals d.locals
   pub values : Holds ts d.values
 
-abbrev pub Fine : Context → List ValType → Effect → Type 0
+abbrev pub Fine : Context → List ValType → DataEffect → Type 0
 Fine c ts (Moves d) = IsData c ts d
 Fine c ts (Traps t) = Unit {0}
 Fine c ts Wrong = ⊥

@@ -10,15 +10,15 @@ use Rattle.wasm_ast.specs.Spaces.{page_limit}
 use Rattle.wasm_ast.specs.Operators.{Access, load_of, store_of}
 use Rattle.wasm_ast.specs.Memory.{memory_load, memory_store, memory_grow, memory_copy, memory_fill}
 use Rattle.wasm_semantics.specs.Operators.{operator_of, type_of_operator, compute, Computed, Number, Fails, Missing}
-use Rattle.wasm_semantics.specs.Data.{Data, Effect, Wrong, with_top, with_some, split, moves, computed, chosen, set_local, set_global, fetched, written, sized, effect_of}
+use Rattle.wasm_semantics.specs.Data.{Data, DataEffect, Wrong, with_top, with_some, split, moves, computed, chosen, set_local, set_global, fetched, written, sized, effect_of}
 use Rattle.wasm_semantics.specs.Laws.{deeper, lifted}
 
-top_flat : (w values : List ℕ) (go go' : ℕ → List ℕ → Effect) → with_top Wrong values go ≢ Wrong → ((v : ℕ) (vs : List ℕ) → go v vs ≢ Wrong → go' v (vs ++ w) ≡ lifted w (go v vs))
+top_flat : (w values : List ℕ) (go go' : ℕ → List ℕ → DataEffect) → with_top Wrong values go ≢ Wrong → ((v : ℕ) (vs : List ℕ) → go v vs ≢ Wrong → go' v (vs ++ w) ≡ lifted w (go v vs))
     → with_top Wrong (values ++ w) go' ≡ lifted w (with_top Wrong values go)
 top_flat w [] go go' h k = absurd (h refl)
 top_flat w (v ∷ vs) go go' h k = k v vs h
 
-some_flat : {A : Type 0} (w : List ℕ) (o : Option A) (go go' : A → Effect) → with_some Wrong o go ≢ Wrong → ((v : A) → go v ≢ Wrong → go' v ≡ lifted w (go v))
+some_flat : {A : Type 0} (w : List ℕ) (o : Option A) (go go' : A → DataEffect) → with_some Wrong o go ≢ Wrong → ((v : A) → go v ≢ Wrong → go' v ≡ lifted w (go v))
     → with_some Wrong o go' ≡ lifted w (with_some Wrong o go)
 some_flat w None go go' h k = refl
 some_flat w (Some v) go go' h k = k v h
@@ -29,7 +29,7 @@ long_enough n k h = grind (arith, nat_tests)
 enough : (n k : ℕ) → k ≤ n → nat_lt n k ≡ false
 enough n k h = grind (arith, nat_tests)
 
-split_by : (w : List ℕ) (n : ℕ) (values : List ℕ) (go go' : List ℕ → List ℕ → Effect) (b : Bool) → nat_lt (length values) n ≡ b → (if b then Wrong else go (take n values) (drop n values)) ≢ Wrong
+split_by : (w : List ℕ) (n : ℕ) (values : List ℕ) (go go' : List ℕ → List ℕ → DataEffect) (b : Bool) → nat_lt (length values) n ≡ b → (if b then Wrong else go (take n values) (drop n values)) ≢ Wrong
     → ((a b : List ℕ) → go a b ≢ Wrong → go' a (b ++ w) ≡ lifted w (go a b)) → split Wrong n (values ++ w) go' ≡ lifted w (if b then Wrong else go (take n values) (drop n values))
 split_by w n values go go' true e h k = absurd (h refl)
 split_by w n values go go' false e h k =
@@ -38,7 +38,7 @@ split_by w n values go go' false e h k =
     ap (λ c. if c then Wrong else go' (take n (values ++ w)) (drop n (values ++ w))) (enough (length (values ++ w)) n longer)
     ∙ (ap (λ t. go' t (drop n (values ++ w))) (take-append-le n values w long) ∙ (ap (λ t. go' (take n values) t) (drop-append-le n values w long) ∙ k (take n values) (drop n values) h))
 
-split_flat : (w : List ℕ) (n : ℕ) (values : List ℕ) (go go' : List ℕ → List ℕ → Effect) → split Wrong n values go ≢ Wrong
+split_flat : (w : List ℕ) (n : ℕ) (values : List ℕ) (go go' : List ℕ → List ℕ → DataEffect) → split Wrong n values go ≢ Wrong
     → ((a b : List ℕ) → go a b ≢ Wrong → go' a (b ++ w) ≡ lifted w (go a b)) → split Wrong n (values ++ w) go' ≡ lifted w (split Wrong n values go)
 split_flat w n values go go' h k = split_by w n values go go' (nat_lt (length values) n) refl h k
 
@@ -59,7 +59,7 @@ sized_flat : (d : Data) (w b : List ℕ) (o : Option (List ℕ)) → sized (deep
 sized_flat d w b None = refl
 sized_flat d w b (Some memory) = refl
 
-three_flat : (w values : List ℕ) (go go' : ℕ → ℕ → ℕ → List ℕ → Effect) → with_top Wrong values (λ x xs. with_top Wrong xs (λ y ys. with_top Wrong ys (go x y))) ≢ Wrong
+three_flat : (w values : List ℕ) (go go' : ℕ → ℕ → ℕ → List ℕ → DataEffect) → with_top Wrong values (λ x xs. with_top Wrong xs (λ y ys. with_top Wrong ys (go x y))) ≢ Wrong
     → ((x y z : ℕ) (zs : List ℕ) → go' x y z (zs ++ w) ≡ lifted w (go x y z zs))
     → with_top Wrong (values ++ w) (λ x xs. with_top Wrong xs (λ y ys. with_top Wrong ys (go' x y))) ≡ lifted w (with_top Wrong values (λ x xs. with_top Wrong xs (λ y ys. with_top Wrong ys (go x y))))
 three_flat w values go go' h k =

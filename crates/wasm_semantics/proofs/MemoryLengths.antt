@@ -14,7 +14,7 @@ use Rattle.wasm_ast.specs.Typing.{results}
 use Rattle.wasm_ast.specs.Hosts.{host_named, host_params, same_type}
 use Rattle.wasm_semantics.specs.declared.traps.Trap.TheVariants as trap
 use Rattle.wasm_semantics.specs.Operators.{operator_of, type_of_operator, compute, Computed, Number, Fails, Missing}
-use Rattle.wasm_semantics.specs.Data.{Data, Effect, Moves, Traps, Wrong, with_top, with_some, split, moves, computed, chosen, set_local, set_global, fetched, written, sized, effect_of}
+use Rattle.wasm_semantics.specs.Data.{Data, DataEffect, Moves, Traps, Wrong, with_top, with_some, split, moves, computed, chosen, set_local, set_global, fetched, written, sized, effect_of}
 use Rattle.wasm_semantics.specs.Threads.{Store, Level, Frame, Thread, Outcome, Goes, Calls, Done, Trapped, Stuck, too_much}
 use Rattle.wasm_semantics.specs.Control.{Spot, thread_at, spot_in, first_spot, at_level, level_with, spot_with, onto, handed, hand, finish, branch, branch_at, enter, leave_to, opened, asked, call_of, call, indirect}
 use Rattle.wasm_semantics.specs.Units.{data_of, applied, act, unit_front, unit_at, limited, unit, Course, after_unit, units_from, units}
@@ -35,7 +35,7 @@ pub split_any : {R : Type 0} (P : R → Type 0) (bad : R) (n : ℕ) (values : Li
 split_any P bad n values go h k = if_rule P (nat_lt (length values) n) bad (go (take n values) (drop n values)) (λ e. h) (λ e. k (take n values) (drop n values))
 
 -- effects
-abbrev EffectKeeps : ℕ → Effect → Type 0
+abbrev EffectKeeps : ℕ → DataEffect → Type 0
 EffectKeeps n (Moves d) = n ≤ length d.memory
 EffectKeeps n (Traps t) = Unit {0}
 EffectKeeps n Wrong = Unit {0}
@@ -63,7 +63,7 @@ sized_keeps : (limit n : ℕ) (d : Data) (o : Option (List ℕ)) (below : List �
 sized_keeps limit n d None below h = same_size (size d)
 sized_keeps limit n d (Some memory) below h = let longer = h.length in omega arith
 
-three_keeps : (d : Data) (values : List ℕ) (go : ℕ → ℕ → ℕ → List ℕ → Effect) → ((x y z : ℕ) (zs : List ℕ) → EffectKeeps (size d) (go x y z zs))
+three_keeps : (d : Data) (values : List ℕ) (go : ℕ → ℕ → ℕ → List ℕ → DataEffect) → ((x y z : ℕ) (zs : List ℕ) → EffectKeeps (size d) (go x y z zs))
     → EffectKeeps (size d) (with_top Wrong values (λ x xs. with_top Wrong xs (λ y ys. with_top Wrong ys (go x y))))
 three_keeps d values go k =
     top_any (EffectKeeps (size d)) Wrong values (λ x xs. with_top Wrong xs (λ y ys. with_top Wrong ys (go x y))) tt
@@ -159,7 +159,7 @@ indirect_keeps m ft p values (Some (Some x)) =
     some_any (Keeps p.store) Stuck (type_of m x) (λ found. if same_type found ft then call m x p values else Trapped trap.TypeDiffers) tt
     (λ found. if_rule (Keeps p.store) (same_type found ft) (call m x p values) (Trapped trap.TypeDiffers) (λ e. call_of_keeps m x p values (slice_get m.imports x)) (λ e. tt))
 
-applied_keeps : (p : Spot) (e : Effect) → EffectKeeps (length p.store.memory) e → Keeps p.store (applied p e)
+applied_keeps : (p : Spot) (e : DataEffect) → EffectKeeps (length p.store.memory) e → Keeps p.store (applied p e)
 applied_keeps p (Moves d) h = h
 applied_keeps p (Traps t) h = tt
 applied_keeps p Wrong h = tt

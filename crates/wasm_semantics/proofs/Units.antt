@@ -9,7 +9,7 @@ use Rattle.wasm_ast.specs.declared.modules.Module.{Module}
 use Rattle.wasm_ast.specs.Typing.{context_of, Step, Types}
 use Rattle.wasm_ast.specs.Validity.{Valid}
 use Rattle.wasm_semantics.specs.declared.traps.Trap.TheVariants as trap
-use Rattle.wasm_semantics.specs.Data.{Effect, Moves, Traps, Wrong, with_some, effect_of}
+use Rattle.wasm_semantics.specs.Data.{DataEffect, Moves, Traps, Wrong, with_some, effect_of}
 use Rattle.wasm_semantics.specs.Threads.{Store, Level, Frame, Thread, Outcome, Goes, Calls, Done, Trapped, Stuck, too_much}
 use Rattle.wasm_semantics.specs.Control.{Spot, spot_in, first_spot, spot_with}
 use Rattle.wasm_semantics.specs.Units.{data_of, applied, act, unit_front, unit_at, limited, unit, Course, after_unit, units_from, units}
@@ -20,7 +20,7 @@ use Rattle.wasm_semantics.proofs.Frames.{Inside, Here, HasLocals, Stood, inside_
 use Rattle.wasm_semantics.proofs.DataEffects.{Fine, IsOnData, data_fine}
 use Rattle.wasm_semantics.proofs.Control.{Next, within, labels, Takes, block_sound, loop_sound, if_sound, br_sound, br_if_sound, br_table_sound, return_sound, call_sound, call_indirect_sound}
 
-applied_rule : {m : Module} {p : Spot} (x : Next m p) (e : Effect) → Fine (within x) x.after e → Sound m (applied p e)
+applied_rule : {m : Module} {p : Spot} (x : Next m p) (e : DataEffect) → Fine (within x) x.after e → Sound m (applied p e)
 applied_rule {p = p} x (Moves d) h =
     goes_rule x.here (record { memory = d.memory; globals = d.globals; table = p.store.table }) d.locals d.values p.level.code x.after
     (record { memory = h.memory; globals = h.globals; length = x.stood.store.length; table = x.stood.store.table }) h.locals h.values x.onward

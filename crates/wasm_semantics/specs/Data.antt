@@ -22,10 +22,10 @@ pub record Data : Type 0 where
   pub values : List ℕ
 
 -- the data after it, a trap, or no rule
-pub data Effect : Type 0 where
-  Moves : Data → Effect
-  Traps : Trap → Effect
-  Wrong : Effect
+pub data DataEffect : Type 0 where
+  Moves : Data → DataEffect
+  Traps : Trap → DataEffect
+  Wrong : DataEffect
 
 -- the topmost value, and those below
 abbrev pub with_top : {R : Type 0} → R → List ℕ → (ℕ → List ℕ → R) → R
@@ -46,7 +46,7 @@ abbrev pub split : {R : Type 0} → R → ℕ → List ℕ → (List ℕ → Lis
 split bad n values go = if nat_lt (length values) n then bad else go (take n values) (drop n values)
 
 -- other operands, and nothing else
-abbrev pub moves : Data → List ℕ → Effect
+abbrev pub moves : Data → List ℕ → DataEffect
 moves d values = Moves (record { memory = d.memory; globals = d.globals; locals = d.locals; values = values })
 
 -- the trap of an operator
@@ -55,7 +55,7 @@ trap_of num_trap.Divide = trap.Divide
 trap_of num_trap.Overflow = trap.Overflow
 
 -- what was computed, onto the operands below
-abbrev pub computed : Data → List ℕ → Computed → Effect
+abbrev pub computed : Data → List ℕ → Computed → DataEffect
 computed d below (Number n) = moves d (n ∷ below)
 computed d below (Fails t) = Traps (trap_of t)
 computed d below Missing = Wrong
@@ -65,34 +65,34 @@ abbrev pub chosen : ℕ → ℕ → ℕ → ℕ
 chosen condition v w = if nat_eq condition 0 then w else v
 
 -- a local is set
-abbrev pub set_local : Data → ℕ → ℕ → List ℕ → Effect
+abbrev pub set_local : Data → ℕ → ℕ → List ℕ → DataEffect
 set_local d x v values = Moves (record { memory = d.memory; globals = d.globals; locals = slice_set d.locals x v; values = values })
 
 -- a global is set
-abbrev pub set_global : Data → ℕ → ℕ → List ℕ → Effect
+abbrev pub set_global : Data → ℕ → ℕ → List ℕ → DataEffect
 set_global d x v values = Moves (record { memory = d.memory; globals = slice_set d.globals x v; locals = d.locals; values = values })
 
 -- the memory is another
-abbrev pub set_memory : Data → List ℕ → List ℕ → Effect
+abbrev pub set_memory : Data → List ℕ → List ℕ → DataEffect
 set_memory d memory values = Moves (record { memory = memory; globals = d.globals; locals = d.locals; values = values })
 
 -- the number that was found in the memory, as a value; a range that is not inside traps
-abbrev pub fetched : Data → Access → Option ℕ → List ℕ → Effect
+abbrev pub fetched : Data → Access → Option ℕ → List ℕ → DataEffect
 fetched d a None below = Traps trap.Memory
 fetched d a (Some n) below = moves d (read_as a n ∷ below)
 
 -- the memory after a write; a range that is not inside traps
-abbrev pub written : Data → Option (List ℕ) → List ℕ → Effect
+abbrev pub written : Data → Option (List ℕ) → List ℕ → DataEffect
 written d None below = Traps trap.Memory
 written d (Some memory) below = set_memory d memory below
 
 -- the memory after it grew, and the old size in pages; 4294967295 where it may not
-abbrev pub sized : Data → Option (List ℕ) → List ℕ → Effect
+abbrev pub sized : Data → Option (List ℕ) → List ℕ → DataEffect
 sized d None below = moves d (4294967295 ∷ below)
 sized d (Some memory) below = set_memory d memory (in_pages d.memory ∷ below)
 
 -- the effect of an instruction, where a memory may have this many pages
-abbrev pub effect_of : Module → ℕ → Layer → Data → Effect
+abbrev pub effect_of : Module → ℕ → Layer → Data → DataEffect
 effect_of m pages Instr-F.Nop d = moves d d.values
 effect_of m pages Instr-F.Drop d = with_top Wrong d.values (λ v vs. moves d vs)
 effect_of m pages Instr-F.Select d = with_three Wrong d.values (λ v b a vs. moves d (chosen v a b ∷ vs))

@@ -2,7 +2,7 @@
 use Rattle.std.specs.Prelude.{ℕ, ◌+◌, ◌-◌, ◌≡◌, ◌≤◌, min, List, ◌∷◌, ◌++◌, length, replicate}
 use Rattle.wasm_ast.specs.declared.modules.Module.{Module}
 use Rattle.wasm_ast.specs.Spaces.{page_limit}
-use Rattle.wasm_semantics.specs.Data.{Data, Effect, Moves, Traps, Wrong}
+use Rattle.wasm_semantics.specs.Data.{Data, DataEffect, Moves, Traps, Wrong}
 use Rattle.wasm_ast.specs.declared.trees.Instr.{Instr}
 use Rattle.wasm_semantics.specs.Control.{Spot, spot_with}
 use Rattle.wasm_semantics.specs.Units.{Course, units}
@@ -25,7 +25,7 @@ abbrev pub deeper : Data → List ℕ → Data
 deeper d below = record { memory = d.memory; globals = d.globals; locals = d.locals; values = d.values ++ below }
 
 -- the same effect on it
-abbrev pub lifted : List ℕ → Effect → Effect
+abbrev pub lifted : List ℕ → DataEffect → DataEffect
 lifted below (Moves d) = Moves (deeper d below)
 lifted below (Traps t) = Traps t
 lifted below Wrong = Wrong

@@ -7,7 +7,7 @@ use Rattle.wasm_ast.specs.declared.modules.Module.{Module}
 use Rattle.wasm_ast.specs.Trees.{Layer, layer}
 use Rattle.wasm_ast.specs.Typing.{results}
 use Rattle.wasm_semantics.specs.declared.traps.Trap.TheVariants as trap
-use Rattle.wasm_semantics.specs.Data.{Data, Effect, Moves, Traps, Wrong, with_top, with_some, effect_of}
+use Rattle.wasm_semantics.specs.Data.{Data, DataEffect, Moves, Traps, Wrong, with_top, with_some, effect_of}
 use Rattle.wasm_semantics.specs.Threads.{Thread, Outcome, Goes, Calls, Done, Trapped, Stuck, too_much}
 use Rattle.wasm_semantics.specs.Control.{Spot, thread_at, spot_of, level_with, spot_with, behind}
 use Rattle.wasm_semantics.specs.Control.{onto, finish, branch_at, enter, leave, call, indirect}
@@ -28,7 +28,7 @@ spot_on p d = record {
 }
 
 -- behind an instruction that moves data
-abbrev pub applied : Spot → Effect → Outcome
+abbrev pub applied : Spot → DataEffect → Outcome
 applied p (Moves d) = Goes (thread_at (spot_on p d))
 applied p (Traps t) = Trapped t
 applied p Wrong = Stuck

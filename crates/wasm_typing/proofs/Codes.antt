@@ -13,38 +13,38 @@ use Rattle.wasm_ast.specs.Typing.{Context, Plain, Step, plain, block, loops, ifs
 use Rattle.wasm_ast.proofs.Typings.{IsPlain, plain_of, block_of, loop_of, if_of, at_end}
 use Rattle.wasm_typing.specs.declared.operands.Operands.{Operands}
 use Rattle.wasm_typing.specs.declared.scopes.Scope.{Scope}
-use Rattle.wasm_typing.specs.Operands.{Fit, Stand, Image, Leaves}
-use Rattle.wasm_typing.specs.Scopes.{context_in, labels_of, Effect, Stepped}
+use Rattle.wasm_typing.specs.Operands.{Fit, Stand, Image, PutsOn}
+use Rattle.wasm_typing.specs.Scopes.{context_in, labels_of, TypeEffect, Stepped}
 use Rattle.wasm_typing.proofs.Images.{Then, image_by, image_then, refused}
 use Rattle.wasm_typing.proofs.Effects.{if_ok}
 
 module _ (s : Scope) (ls : List (Option ValType)) (i : Instr) (old new : Operands) where
-  pub plain_stepped : (y : Layer) (ok : Bool) → layer i ≡ y → IsPlain y → Effect s ls y old new ok → Stepped s ls i old new ok
+  pub plain_stepped : (y : Layer) (ok : Bool) → layer i ≡ y → IsPlain y → TypeEffect s ls y old new ok → Stepped s ls i old new ok
   plain_stepped y ok e p h =
       image_by (Plain (context_in s) (labels_of ls) y) (Step (context_in s) (labels_of ls) i) (Stand old) (Stand new) ok
       (λ b a w. plain (context_in s) (labels_of ls) i b a (subst (λ z. Plain (context_in s) (labels_of ls) z b a) (sym e) w))
       (λ b a d. plain_of (context_in s) (labels_of ls) i b a y d e p) h
 
-  pub effects_stepped : {E : Type 0} (r : Result Bool E) (y : Layer) → layer i ≡ y → IsPlain y → IfOk r (λ ok. (labels : List (Option ValType)) → Effect s labels y old new ok) → IfOk r (λ ok. Stepped s ls i old new ok)
-  effects_stepped r y e p h = if_ok r (λ ok. (labels : List (Option ValType)) → Effect s labels y old new ok) (λ ok. Stepped s ls i old new ok) (λ ok w. plain_stepped y ok e p (w ls)) h
+  pub effects_stepped : {E : Type 0} (r : Result Bool E) (y : Layer) → layer i ≡ y → IsPlain y → IfOk r (λ ok. (labels : List (Option ValType)) → TypeEffect s labels y old new ok) → IfOk r (λ ok. Stepped s ls i old new ok)
+  effects_stepped r y e p h = if_ok r (λ ok. (labels : List (Option ValType)) → TypeEffect s labels y old new ok) (λ ok. Stepped s ls i old new ok) (λ ok w. plain_stepped y ok e p (w ls)) h
 
-  pub effect_stepped : {E : Type 0} (r : Result Bool E) (y : Layer) → layer i ≡ y → IsPlain y → IfOk r (λ ok. Effect s ls y old new ok) → IfOk r (λ ok. Stepped s ls i old new ok)
-  effect_stepped r y e p h = if_ok r (λ ok. Effect s ls y old new ok) (λ ok. Stepped s ls i old new ok) (λ ok w. plain_stepped y ok e p w) h
+  pub effect_stepped : {E : Type 0} (r : Result Bool E) (y : Layer) → layer i ≡ y → IsPlain y → IfOk r (λ ok. TypeEffect s ls y old new ok) → IfOk r (λ ok. Stepped s ls i old new ok)
+  effect_stepped r y e p h = if_ok r (λ ok. TypeEffect s ls y old new ok) (λ ok. Stepped s ls i old new ok) (λ ok w. plain_stepped y ok e p w) h
 
-  pub block_stepped : (bt : Option ValType) (body : Seq) → layer i ≡ Instr-F.Block bt body → Types (context_in s) (results bt ∷ labels_of ls) body.items [] (results bt) → Image (Leaves (results bt)) (Stand old) (Stand new) true
+  pub block_stepped : (bt : Option ValType) (body : Seq) → layer i ≡ Instr-F.Block bt body → Types (context_in s) (results bt ∷ labels_of ls) body.items [] (results bt) → Image (PutsOn (results bt)) (Stand old) (Stand new) true
       → Stepped s ls i old new true
   block_stepped bt body e t h =
-      image_by (Leaves (results bt)) (Step (context_in s) (labels_of ls) i) (Stand old) (Stand new) true
+      image_by (PutsOn (results bt)) (Step (context_in s) (labels_of ls) i) (Stand old) (Stand new) true
       (λ b a w. block (context_in s) (labels_of ls) i bt body b a e t w) (λ b a d. (block_of (context_in s) (labels_of ls) i b a bt body d e).1) h
 
   pub block_refused : (bt : Option ValType) (body : Seq) → layer i ≡ Instr-F.Block bt body → (Types (context_in s) (results bt ∷ labels_of ls) body.items [] (results bt) → ⊥) → Stepped s ls i old new false
   block_refused bt body e n =
       refused (Step (context_in s) (labels_of ls) i) (Stand old) (Stand new) (λ b a d. n (block_of (context_in s) (labels_of ls) i b a bt body d e).0)
 
-  pub loop_stepped : (bt : Option ValType) (body : Seq) → layer i ≡ Instr-F.Loop bt body → Types (context_in s) ([] ∷ labels_of ls) body.items [] (results bt) → Image (Leaves (results bt)) (Stand old) (Stand new) true
+  pub loop_stepped : (bt : Option ValType) (body : Seq) → layer i ≡ Instr-F.Loop bt body → Types (context_in s) ([] ∷ labels_of ls) body.items [] (results bt) → Image (PutsOn (results bt)) (Stand old) (Stand new) true
       → Stepped s ls i old new true
   loop_stepped bt body e t h =
-      image_by (Leaves (results bt)) (Step (context_in s) (labels_of ls) i) (Stand old) (Stand new) true
+      image_by (PutsOn (results bt)) (Step (context_in s) (labels_of ls) i) (Stand old) (Stand new) true
       (λ b a w. loops (context_in s) (labels_of ls) i bt body b a e t w) (λ b a d. (loop_of (context_in s) (labels_of ls) i b a bt body d e).1) h
 
   pub loop_refused : (bt : Option ValType) (body : Seq) → layer i ≡ Instr-F.Loop bt body → (Types (context_in s) ([] ∷ labels_of ls) body.items [] (results bt) → ⊥) → Stepped s ls i old new false

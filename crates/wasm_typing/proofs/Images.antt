@@ -8,7 +8,7 @@ use Rattle.std.proofs.lemmas.List.{take-append-drop, append-nil}
 use Rattle.wasm_ast.specs.declared.val_types.ValType.{ValType}
 use Rattle.wasm_ast.specs.declared.val_types.ValType.TheVariants.{I32}
 use Rattle.wasm_ast.specs.Typing.{Changes}
-use Rattle.wasm_typing.specs.Operands.{Known, Fit, Image, Splits, Takes, Leaves, TakesOne, Anything, Jumps, Chooses, NoTop}
+use Rattle.wasm_typing.specs.Operands.{FitsKnown, Fit, Image, Splits, Takes, PutsOn, TakesOne, Anything, Jumps, Chooses, NoTop}
 
 -- one relation after the other
 abbrev pub Then : (List ValType → List ValType → Type 0) → (List ValType → List ValType → Type 0) → List ValType → List ValType → Type 0
@@ -36,7 +36,7 @@ image_by R S P Q ok f g r = record {
 }
 
 -- some list stands
-some_type : (known : Option ValType) → (t : ValType) × Known known t
+some_type : (known : Option ValType) → (t : ValType) × FitsKnown known t
 some_type None = (I32, tt)
 some_type (Some t) = (t, refl)
 
@@ -68,11 +68,11 @@ image_one P Q known s = record {
   source = λ h a q. let t = some_type known in (t.0 ∷ a, s.whole t.0 a t.1 q, (t.0, refl));
 }
 
-back_from : (P Q : List ValType → Type 0) (t : ValType) → Splits Q P (Some t) → (Q [] → IsTrue false) → (a : List ValType) → Q a → (b : List ValType) × P b × Leaves (t ∷ []) b a
+back_from : (P Q : List ValType → Type 0) (t : ValType) → Splits Q P (Some t) → (Q [] → IsTrue false) → (a : List ValType) → Q a → (b : List ValType) × P b × PutsOn (t ∷ []) b a
 back_from P Q t s n [] q = false_not (n q)
 back_from P Q t s n (u ∷ us) q = let w = s.parts u us q in (us, w.1, ap (λ v. v ∷ us) w.0)
 
-pub image_leave : (P Q : List ValType → Type 0) (t : ValType) → Splits Q P (Some t) → (Q [] → IsTrue false) → Image (Leaves (t ∷ [])) P Q true
+pub image_leave : (P Q : List ValType → Type 0) (t : ValType) → Splits Q P (Some t) → (Q [] → IsTrue false) → Image (PutsOn (t ∷ [])) P Q true
 image_leave P Q t s n = record {
   reached = λ b a p e. (refl, subst Q (sym e) (s.whole t b refl p));
   source = λ h a q. back_from P Q t s n a q;
@@ -93,17 +93,17 @@ takes_stop ts us P Q r =
     (λ b a e. (us ++ a, e ∙ append_assoc ts us a, refl))
     (image_stops (Takes ts) (Takes us) P Q Q r)
 
-pub leaves_both : (ts us : List ValType) (P M Q : List ValType → Type 0) → Image (Leaves us) P M true → Image (Leaves ts) M Q true → Image (Leaves (ts ++ us)) P Q true
+pub leaves_both : (ts us : List ValType) (P M Q : List ValType → Type 0) → Image (PutsOn us) P M true → Image (PutsOn ts) M Q true → Image (PutsOn (ts ++ us)) P Q true
 leaves_both ts us P M Q r s =
-    image_by (Then (Leaves us) (Leaves ts)) (Leaves (ts ++ us)) P Q true
+    image_by (Then (PutsOn us) (PutsOn ts)) (PutsOn (ts ++ us)) P Q true
     (λ b a w. w.2 ∙ (ap (λ x. ts ++ x) w.1 ∙ sym (append_assoc ts us b)))
     (λ b a e. (us ++ b, refl, e ∙ append_assoc ts us b))
-    (image_then (Leaves us) (Leaves ts) P M Q true r s)
+    (image_then (PutsOn us) (PutsOn ts) P M Q true r s)
 
 pub takes_nothing : (P : List ValType → Type 0) → Image (Takes []) P P true
 takes_nothing P = record { reached = λ b a p e. (refl, subst P e p); source = λ h a q. (a, q, refl) }
 
-pub leaves_nothing : (P : List ValType → Type 0) → Image (Leaves []) P P true
+pub leaves_nothing : (P : List ValType → Type 0) → Image (PutsOn []) P P true
 leaves_nothing P = record { reached = λ b a p e. (refl, subst P (sym e) p); source = λ h a q. (a, q, refl) }
 
 pub take_step : (all : List ValType) (n : ℕ) (t : ValType) (P M Q : List ValType → Type 0) → n < length all → t ≡ get_or all n t → Image (Takes (take n all)) P M true → Image (Takes (t ∷ [])) M Q true
@@ -120,10 +120,10 @@ take_stop all n t P M Q lt e r s =
     subst (λ x. Image (Takes x) P Q false) (parted all n t lt e)
     (takes_both (take n all) (t ∷ drop (suc n) all) P M Q false r (takes_stop (t ∷ []) (drop (suc n) all) M Q s))
 
-pub leave_step : (all : List ValType) (n : ℕ) (t : ValType) (P M Q : List ValType → Type 0) → n < length all → t ≡ get_or all n t → Image (Leaves (reverse (take n all))) P M true → Image (Leaves (t ∷ [])) M Q true
-    → Image (Leaves (reverse (take (n + 1) all))) P Q true
+pub leave_step : (all : List ValType) (n : ℕ) (t : ValType) (P M Q : List ValType → Type 0) → n < length all → t ≡ get_or all n t → Image (PutsOn (reverse (take n all))) P M true → Image (PutsOn (t ∷ [])) M Q true
+    → Image (PutsOn (reverse (take (n + 1) all))) P Q true
 leave_step all n t P M Q lt e r s =
-    subst (λ x. Image (Leaves x) P Q true)
+    subst (λ x. Image (PutsOn x) P Q true)
     (sym (ap reverse (take_more all n t lt ∙ ap (λ u. take n all ++ u ∷ []) (sym e)) ∙ reverse-append (take n all) (t ∷ [])))
     (leaves_both (t ∷ []) (reverse (take n all)) P M Q r s)
 
@@ -146,14 +146,14 @@ chooses_second P Q n = image_none Chooses Anything P Q (λ b a p w. absurd (n w.
 pub chooses_first : (P M Q : List ValType → Type 0) (second : Option ValType) → Splits P M second → NoTop M → Image Chooses P Q false
 chooses_first P M Q second s n = image_none Chooses Anything P Q (λ b a p w. absurd (n w.0 w.1.0 (s.parts w.0 (w.0 ∷ w.1.0) (subst P w.1.1 p)).1))
 
-pub chooses_none : (P M N Q : List ValType → Type 0) (first second : Option ValType) → Splits P M second → Splits M N first → ((t : ValType) → Known first t → Known second t → ⊥) → Image Chooses P Q false
+pub chooses_none : (P M N Q : List ValType → Type 0) (first second : Option ValType) → Splits P M second → Splits M N first → ((t : ValType) → FitsKnown first t → FitsKnown second t → ⊥) → Image Chooses P Q false
 chooses_none P M N Q first second s r n =
     image_none Chooses Anything P Q (λ b a p w.
     let x = s.parts w.0 (w.0 ∷ w.1.0) (subst P w.1.1 p) in
     let y = r.parts w.0 w.1.0 x.1 in
     absurd (n w.0 y.0 x.0))
 
-chosen : (P M N Q : List ValType → Type 0) (first second known : Option ValType) → Splits P M second → Splits M N first → ((t : ValType) → Known known t ↔ (Known first t × Known second t)) → Splits Q N known
+chosen : (P M N Q : List ValType → Type 0) (first second known : Option ValType) → Splits P M second → Splits M N first → ((t : ValType) → FitsKnown known t ↔ (FitsKnown first t × FitsKnown second t)) → Splits Q N known
     → (Q [] → IsTrue false) → (a : List ValType) → Q a → (b : List ValType) × P b × Chooses b a
 chosen P M N Q first second known s r e w n [] q = false_not (n q)
 chosen P M N Q first second known s r e w n (t ∷ ts) q =
@@ -161,7 +161,7 @@ chosen P M N Q first second known s r e w n (t ∷ ts) q =
     let y = (e t).0 x.0 in
     (t ∷ (t ∷ ts), s.whole t (t ∷ ts) y.1 (r.whole t ts y.0 x.1), (t, (ts, refl, refl)))
 
-pub image_chooses : (P M N Q : List ValType → Type 0) (first second known : Option ValType) → Splits P M second → Splits M N first → ((t : ValType) → Known known t ↔ (Known first t × Known second t)) → Splits Q N known
+pub image_chooses : (P M N Q : List ValType → Type 0) (first second known : Option ValType) → Splits P M second → Splits M N first → ((t : ValType) → FitsKnown known t ↔ (FitsKnown first t × FitsKnown second t)) → Splits Q N known
     → (Q [] → IsTrue false) → Image Chooses P Q true
 image_chooses P M N Q first second known s r e w n = record {
   reached = λ b a p c.
@@ -172,8 +172,8 @@ image_chooses P M N Q first second known s r e w n = record {
 }
 
 -- takes these and puts those
-pub image_changes : (ts us : List ValType) (P M Q : List ValType → Type 0) → Image (Takes ts) P M true → Image (Leaves us) M Q true → Image (Changes ts us) P Q true
-image_changes ts us P M Q r s = image_then (Takes ts) (Leaves us) P M Q true r s
+pub image_changes : (ts us : List ValType) (P M Q : List ValType → Type 0) → Image (Takes ts) P M true → Image (PutsOn us) M Q true → Image (Changes ts us) P Q true
+image_changes ts us P M Q r s = image_then (Takes ts) (PutsOn us) P M Q true r s
 
 pub changes_stop : (ts us : List ValType) (P Q : List ValType → Type 0) → Image (Takes ts) P Q false → Image (Changes ts us) P Q false
 changes_stop ts us P Q r = image_none (Changes ts us) Anything P Q (λ b a p w. (r.reached b w.0 p w.1).0)
@@ -191,8 +191,8 @@ changes_first ts us vs P M Q r = image_none (Changes (ts ++ us) vs) Anything P Q
 pub changes_takes : (ts : List ValType) (P Q : List ValType → Type 0) (ok : Bool) → Image (Changes ts []) P Q ok → Image (Takes ts) P Q ok
 changes_takes ts P Q ok r = image_by (Changes ts []) (Takes ts) P Q ok (λ b a w. w.1 ∙ ap (λ x. ts ++ x) (sym w.2)) (λ b a e. (a, e, refl)) r
 
-pub changes_leaves : (us : List ValType) (P Q : List ValType → Type 0) (ok : Bool) → Image (Changes [] us) P Q ok → Image (Leaves us) P Q ok
-changes_leaves us P Q ok r = image_by (Changes [] us) (Leaves us) P Q ok (λ b a w. w.2 ∙ ap (λ x. us ++ x) (sym w.1)) (λ b a e. (b, refl, e)) r
+pub changes_leaves : (us : List ValType) (P Q : List ValType → Type 0) (ok : Bool) → Image (Changes [] us) P Q ok → Image (PutsOn us) P Q ok
+changes_leaves us P Q ok r = image_by (Changes [] us) (PutsOn us) P Q ok (λ b a w. w.2 ∙ ap (λ x. us ++ x) (sym w.1)) (λ b a e. (b, refl, e)) r
 
 -- under a look-up
 abbrev pub Given : {A : Type 0} → Option A → (A → List ValType → List ValType → Type 0) → List ValType → List ValType → Type 0

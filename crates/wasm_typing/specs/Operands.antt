@@ -4,16 +4,16 @@ use Rattle.wasm_ast.specs.declared.val_types.ValType.{ValType}
 use Rattle.wasm_typing.specs.declared.operands.Operands.{Operands}
 
 -- a type that fits what is known of it
-abbrev pub Known : Option ValType → ValType → Type 0
-Known None t = Unit {0}
-Known (Some u) t = t ≡ u
+abbrev pub FitsKnown : Option ValType → ValType → Type 0
+FitsKnown None t = Unit {0}
+FitsKnown (Some u) t = t ≡ u
 
 -- a list that fits what is known, topmost first; below the known ones stands nothing, or anything
 abbrev pub Fit : Bool → List (Option ValType) → List ValType → Type 0
 Fit false [] ts = ts ≡ []
 Fit true [] ts = Unit {0}
 Fit anything (known ∷ others) [] = ⊥
-Fit anything (known ∷ others) (t ∷ ts) = Known known t × Fit anything others ts
+Fit anything (known ∷ others) (t ∷ ts) = FitsKnown known t × Fit anything others ts
 
 -- a list that fits what is kept
 abbrev pub Stand : Operands → List ValType → Type 0
@@ -24,8 +24,8 @@ abbrev pub Takes : List ValType → List ValType → List ValType → Type 0
 Takes ts before after = before ≡ ts ++ after
 
 -- it puts these on
-abbrev pub Leaves : List ValType → List ValType → List ValType → Type 0
-Leaves ts before after = after ≡ ts ++ before
+abbrev pub PutsOn : List ValType → List ValType → List ValType → Type 0
+PutsOn ts before after = after ≡ ts ++ before
 
 -- it takes one off
 abbrev pub TakesOne : List ValType → List ValType → Type 0
@@ -54,8 +54,8 @@ Turns R old new told = IfOk told (λ ok. Image R (Stand old) (Stand new) ok)
 
 -- the lists of P that have one on top are those of Q with one that fits what is known
 pub record Splits (P Q : List ValType → Type 0) (known : Option ValType) : Type 0 where
-  pub parts : (t : ValType) (ts : List ValType) → P (t ∷ ts) → Known known t × Q ts
-  pub whole : (t : ValType) (ts : List ValType) → Known known t → Q ts → P (t ∷ ts)
+  pub parts : (t : ValType) (ts : List ValType) → P (t ∷ ts) → FitsKnown known t × Q ts
+  pub whole : (t : ValType) (ts : List ValType) → FitsKnown known t → Q ts → P (t ∷ ts)
 
 -- no list of P has one on top
 abbrev pub NoTop : (List ValType → Type 0) → Type 0
@@ -63,5 +63,5 @@ NoTop P = (t : ValType) (ts : List ValType) → P (t ∷ ts) → ⊥
 
 -- what is known of a type exactly where both of these are; none where no type fits both
 abbrev pub IsBoth : Option ValType → Option ValType → Option (Option ValType) → Type 0
-IsBoth first second None = (t : ValType) → Known first t → Known second t → ⊥
-IsBoth first second (Some known) = (t : ValType) → Known known t ↔ (Known first t × Known second t)
+IsBoth first second None = (t : ValType) → FitsKnown first t → FitsKnown second t → ⊥
+IsBoth first second (Some known) = (t : ValType) → FitsKnown known t ↔ (FitsKnown first t × FitsKnown second t)

@@ -16,17 +16,17 @@ abbrev pub labels_of : List (Option ValType) → List (List ValType)
 labels_of labels = map results labels
 
 -- the operands that an instruction without parts leaves, if it has a typing there
-abbrev pub Effect : Scope → List (Option ValType) → Layer → Operands → Operands → Bool → Type 0
-Effect s labels y old new ok = Image (Plain (context_in s) (labels_of labels) y) (Stand old) (Stand new) ok
+abbrev pub TypeEffect : Scope → List (Option ValType) → Layer → Operands → Operands → Bool → Type 0
+TypeEffect s labels y old new ok = Image (Plain (context_in s) (labels_of labels) y) (Stand old) (Stand new) ok
 
 -- the same where the answer is not that memory is wanting
 abbrev pub EffectHere : {E : Type 0} → Scope → List (Option ValType) → Layer → Operands → Operands
     → Result Bool E → Type 0
-EffectHere s labels y old new told = IfOk told (λ ok. Effect s labels y old new ok)
+EffectHere s labels y old new told = IfOk told (λ ok. TypeEffect s labels y old new ok)
 
 -- the same within any open blocks
 abbrev pub EffectAnywhere : {E : Type 0} → Scope → Layer → Operands → Operands → Result Bool E → Type 0
-EffectAnywhere s y old new told = IfOk told (λ ok. (labels : List (Option ValType)) → Effect s labels y old new ok)
+EffectAnywhere s y old new told = IfOk told (λ ok. (labels : List (Option ValType)) → TypeEffect s labels y old new ok)
 
 -- what any instruction makes of the operands, if it has a typing there
 abbrev pub Stepped : Scope → List (Option ValType) → Instr → Operands → Operands → Bool → Type 0

@@ -4,7 +4,7 @@ ghost use Rattle.std.specs.Prelude.{◌≡◌, ◌↔◌, [], ◌∷◌, ◌++�
 ghost use Rattle.wasm_ast.specs.declared.val_types.ValType.{ValType};
 ghost use Rattle.wasm_ast.specs.Typing.{results, Changes};
 ghost use Rattle.wasm_typing.specs.Operands.{Stand, Image, Turns, Splits, NoTop, IsBoth};
-ghost use Rattle.wasm_typing.specs.Operands.{Takes, Leaves, TakesOne, Anything, Jumps, Chooses};
+ghost use Rattle.wasm_typing.specs.Operands.{Takes, PutsOn, TakesOne, Anything, Jumps, Chooses};
 
 use std::alloc::{AllocError, Global};
 use wasm_ast::{BlockType, FuncType, ValType};
@@ -159,14 +159,14 @@ impl Operands {
 
     /// Puts one of this type on top.
     pub fn leave(&mut self, val_type: ValType) -> Result<(), AllocError>
-        ensures { OnOk result (Image (Leaves (val_type ∷ [])) (Stand self.old) (Stand self.new) true) }
+        ensures { OnOk result (Image (PutsOn (val_type ∷ [])) (Stand self.old) (Stand self.new) true) }
     {
         self.put(Some(val_type))
     }
 
     /// Puts these, the first of them on top.
     pub fn leave_all(&mut self, val_types: &[ValType]) -> Result<(), AllocError>
-        ensures { OnOk result (Image (Leaves val_types.now) (Stand self.old) (Stand self.new) true) }
+        ensures { OnOk result (Image (PutsOn val_types.now) (Stand self.old) (Stand self.new) true) }
     {
         for val_type in val_types.iter().rev() {
             self.leave(*val_type)?;
@@ -176,7 +176,7 @@ impl Operands {
 
     /// Puts what a block of this type leaves.
     pub fn leave_block(&mut self, block_type: BlockType) -> Result<(), AllocError>
-        ensures { OnOk result (Image (Leaves (results block_type)) (Stand self.old) (Stand self.new) true) }
+        ensures { OnOk result (Image (PutsOn (results block_type)) (Stand self.old) (Stand self.new) true) }
     {
         match block_type {
             Some(val_type) => self.leave(val_type),

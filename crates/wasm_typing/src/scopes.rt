@@ -4,7 +4,7 @@ ghost use Rattle.std.specs.Prelude.{◌≡◌, ◌↔◌, ◌<◌, ◌^◌, [], 
 ghost use Rattle.wasm_ast.specs.declared.val_types.ValType.{ValType};
 ghost use Rattle.wasm_ast.specs.declared.trees.Instr.TheOpen.{Instr-F};
 ghost use Rattle.wasm_ast.specs.Typing.{Lead, results};
-ghost use Rattle.wasm_typing.specs.Scopes.{Effect, EffectHere, EffectAnywhere, labels_of};
+ghost use Rattle.wasm_typing.specs.Scopes.{TypeEffect, EffectHere, EffectAnywhere, labels_of};
 
 use crate::opcodes::{load_at, operator_at, store_at};
 use crate::operands::Operands;
@@ -25,7 +25,7 @@ pub struct Scope<'a> {
 impl Scope<'_> {
     /// `br`.
     pub fn branch(self, labels: &Stack<BlockType>, operands: &mut Operands, label: u32) -> bool
-        ensures { Effect self.entry labels.now (Instr-F.Br label) operands.old operands.new result }
+        ensures { TypeEffect self.entry labels.now (Instr-F.Br label) operands.old operands.new result }
     {
         match labels.copy_at(label as usize) {
             Some(taken) => operands.jump(taken),
@@ -251,7 +251,7 @@ impl Scope<'_> {
         targets: &[u32],
         default: u32,
     ) -> bool
-        ensures { Effect self.entry labels.now (Instr-F.BrTable targets.now default) operands.old operands.new result }
+        ensures { TypeEffect self.entry labels.now (Instr-F.BrTable targets.now default) operands.old operands.new result }
     {
         let Some(taken) = labels.copy_at(default as usize) else {
             return false;

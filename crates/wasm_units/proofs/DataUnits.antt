@@ -10,7 +10,7 @@ use Rattle.wasm_ast.specs.Trees.{Layer}
 use Rattle.wasm_semantics.specs.declared.traps.Trap.{Trap}
 use Rattle.wasm_semantics.specs.Operators.{truth}
 use Rattle.wasm_semantics.specs.Threads.{Level, Frame, Goes}
-use Rattle.wasm_semantics.specs.Data.{Data, Effect, Moves, Traps, Wrong, effect_of}
+use Rattle.wasm_semantics.specs.Data.{Data, DataEffect, Moves, Traps, Wrong, effect_of}
 use Rattle.wasm_semantics.specs.Control.{Spot, thread_at, spot_with}
 use Rattle.wasm_semantics.specs.Units.{act, applied, data_of}
 use Rattle.wasm_semantics.specs.Operands.{LieOnTop}
@@ -78,17 +78,17 @@ spot_moved a code nexts (o ∷ os) ops more le =
 moves_same : (a b : Data) → Moves a ≡ Moves b → a ≡ b
 moves_same a b h = cc
 
-lifted_moves : (w : List ℕ) (e : Effect) (d : Data) → lifted w e ≡ Moves d → (d' : Data) × (e ≡ Moves d') × (deeper d' w ≡ d)
+lifted_moves : (w : List ℕ) (e : DataEffect) (d : Data) → lifted w e ≡ Moves d → (d' : Data) × (e ≡ Moves d') × (deeper d' w ≡ d)
 lifted_moves w (Moves x) d h = (x, refl, moves_same (deeper x w) d h)
 lifted_moves w (Traps t) d h = cc
 lifted_moves w Wrong d h = cc
 
-lifted_traps : (w : List ℕ) (e : Effect) (t : Trap) → lifted w e ≡ Traps t → e ≡ Traps t
+lifted_traps : (w : List ℕ) (e : DataEffect) (t : Trap) → lifted w e ≡ Traps t → e ≡ Traps t
 lifted_traps w (Moves x) t h = cc
 lifted_traps w (Traps s) t h = h
 lifted_traps w Wrong t h = cc
 
-lifted_wrong : (w : List ℕ) (e : Effect) → lifted w e ≡ Wrong → e ≡ Wrong
+lifted_wrong : (w : List ℕ) (e : DataEffect) → lifted w e ≡ Wrong → e ≡ Wrong
 lifted_wrong w (Moves x) h = cc
 lifted_wrong w (Traps t) h = cc
 lifted_wrong w Wrong h = refl

@@ -10,7 +10,7 @@ use Rattle.wasm_semantics.specs.Data.{Moves, Traps, Wrong, moves, effect_of}
 use Rattle.wasm_semantics.specs.Control.{thread_at}
 use Rattle.wasm_semantics.specs.Units.{act, applied, unit_at}
 use Rattle.wasm_data.specs.Cuts.{above, under}
-use Rattle.wasm_data.specs.Marked.{IsWithin, locals_in, operands_in, raised}
+use Rattle.wasm_data.specs.Marked.{AreInArray, locals_in, operands_in, raised}
 use Rattle.wasm_data.specs.Effects.{Does, cells, seen}
 use Rattle.wasm_data.proofs.Arrays.{length_operands, length_locals}
 use Rattle.wasm_blocks.specs.declared.open.Open.{Open}
@@ -21,7 +21,7 @@ use Rattle.wasm_blocks.proofs.Levels.{height_of, heights}
 use Rattle.wasm_blocks.proofs.BlocksOnStacks.{lower}
 use Rattle.wasm_frames.specs.declared.active.Active.{Active}
 use Rattle.wasm_frames.specs.Resting.{frames_at_rest}
-use Rattle.wasm_frames.specs.Standing.{Held, held, store_of, spot_at, IsStanding, IsPlaced}
+use Rattle.wasm_frames.specs.Standing.{Surroundings, held, store_of, spot_at, IsStanding, IsPlaced}
 use Rattle.wasm_frames.specs.Turns.{Went, IsPast, Answered}
 use Rattle.wasm_frames.proofs.Counts.{levels_values, rest_values}
 use Rattle.wasm_frames.proofs.Lifts.{below_stays}
@@ -35,11 +35,11 @@ use Rattle.wasm_units.proofs.Fronts.{Front, ruled, placed_behind}
 use Rattle.wasm_units.proofs.DataUnits.{IsData, act_data, deep_of, data_by, moves_whole, traps_whole, whole_typed, fits_whole}
 
 -- what lies around the levels
-abbrev pub around_of : Module → Store → Active → Held → Around
+abbrev pub around_of : Module → Store → Active → Surroundings → Around
 around_of m st a h = record { store = st; locals = locals_in a.hot.marks.base a.hot.marks.floor h.values; gives = truth a.gives; frames = frames_at_rest m h.places h.values (under a.hot.low h.opens) }
 
 -- the effect at the innermost level is one
-pub data_typed : (m : Module) (pages : ℕ) (st : Store) (a : Active) (h : Held) (i : Instr) (rest : Bor (List Instr)) → IsData (layer i) → act m pages i (layer i) (spot_at m st (passed a rest) h) ≢ Stuck
+pub data_typed : (m : Module) (pages : ℕ) (st : Store) (a : Active) (h : Surroundings) (i : Instr) (rest : Bor (List Instr)) → IsData (layer i) → act m pages i (layer i) (spot_at m st (passed a rest) h) ≢ Stuck
     → effect_of m pages (layer i) (data_by (around_of m st a h) (values_in (above a.hot.low h.opens) (own_operands a h))) ≢ Wrong
 data_typed m pages st a h i rest d t wrong = let p = spot_at m st (passed a rest) h in t (act_data m pages i (layer i) p d ∙ ap (applied p) wrong)
 
@@ -51,10 +51,10 @@ tower_again : (own : List Open) (h h' : ℕ) → IsTower own h → height_of own
 tower_again [] h h' t le = tt
 tower_again (o ∷ os) h h' t le = (le, t.1)
 
-pub data_went : (m : Module) (pages : ℕ) (st st' : Store) (a : Active) (h : Held) (values' : List ℕ) (i : Instr) (rest : Bor (List Instr)) (sp : ℕ) → a.hot.code.now ≡ i ∷ rest.now → IsData (layer i)
+pub data_went : (m : Module) (pages : ℕ) (st st' : Store) (a : Active) (h : Surroundings) (values' : List ℕ) (i : Instr) (rest : Bor (List Instr)) (sp : ℕ) → a.hot.code.now ≡ i ∷ rest.now → IsData (layer i)
     → IsStanding a h → IsPlaced m a h → IsPlaced m (passed a rest) h → act m pages i (layer i) (spot_at m st (passed a rest) h) ≢ Stuck → st'.table ≡ st.table
     → effect_of m pages (layer i) (seen (cells st.memory st.globals h.values) a.hot.marks) ≡ Moves (seen (cells st'.memory st'.globals values') (raised a.hot.marks sp))
-    → IsWithin (raised a.hot.marks sp) (length values') → take a.hot.marks.base values' ≡ take a.hot.marks.base h.values → length h.values ≤ length values'
+    → AreInArray (raised a.hot.marks sp) (length values') → take a.hot.marks.base values' ≡ take a.hot.marks.base h.values → length h.values ≤ length values'
     → Went m (unit_at m pages (spot_at m st a h)) st' (held h.places h.codes values' h.opens h.nexts) (with_sp (passed a rest) sp)
 data_went m pages st st' a h values' i rest sp e d s pl pl' t table moved within deep long =
     let k = a.hot.marks in
@@ -87,7 +87,7 @@ data_went m pages st st' a h values' i rest sp e d s pl pl' t table moved within
       placed = record { here = pl'.here; below = below.4 };
     }
 
-pub data_traps : (m : Module) (pages : ℕ) (st : Store) (a : Active) (h : Held) (i : Instr) (rest : Bor (List Instr)) (trap : Trap) → a.hot.code.now ≡ i ∷ rest.now → IsData (layer i)
+pub data_traps : (m : Module) (pages : ℕ) (st : Store) (a : Active) (h : Surroundings) (i : Instr) (rest : Bor (List Instr)) (trap : Trap) → a.hot.code.now ≡ i ∷ rest.now → IsData (layer i)
     → act m pages i (layer i) (spot_at m st (passed a rest) h) ≢ Stuck → effect_of m pages (layer i) (seen (cells st.memory st.globals h.values) a.hot.marks) ≡ Traps trap
     → unit_at m pages (spot_at m st a h) ≡ Trapped trap
 data_traps m pages st a h i rest trap e d t traps =
@@ -97,7 +97,7 @@ data_traps m pages st a h i rest trap e d t traps =
     ∙ ap (applied p) (traps_whole m pages (layer i) (around_of m st a h) (above a.hot.low h.opens) (own_operands a h) trap (data_typed m pages st a h i rest d t) traps))
 
 -- one operand more, for which there is no place
-pub data_past : (m : Module) (pages : ℕ) (st : Store) (a : Active) (h : Held) (i : Instr) (rest : Bor (List Instr)) (v : ℕ) → a.hot.code.now ≡ i ∷ rest.now → IsData (layer i)
+pub data_past : (m : Module) (pages : ℕ) (st : Store) (a : Active) (h : Surroundings) (i : Instr) (rest : Bor (List Instr)) (v : ℕ) → a.hot.code.now ≡ i ∷ rest.now → IsData (layer i)
     → IsStanding a h → act m pages i (layer i) (spot_at m st (passed a rest) h) ≢ Stuck
     → effect_of m pages (layer i) (seen (cells st.memory st.globals h.values) a.hot.marks) ≡ moves (seen (cells st.memory st.globals h.values) a.hot.marks) (v ∷ own_operands a h)
     → a.hot.marks.sp ≡ length h.values → IsPast (unit_at m pages (spot_at m st a h)) h
@@ -122,12 +122,12 @@ data_past m pages st a h i rest v e d s t moved full =
     }
 
 -- what is carried out on data needs, and comes to
-pub moves_typed : {m : Module} {st : Store} {a : Active} {h : Held} {i : Instr} {rest : Bor (List Instr)} → Front m st a h i rest → (pages : ℕ) → IsData (layer i)
+pub moves_typed : {m : Module} {st : Store} {a : Active} {h : Surroundings} {i : Instr} {rest : Bor (List Instr)} → Front m st a h i rest → (pages : ℕ) → IsData (layer i)
     → effect_of m pages (layer i) (seen (cells st.memory st.globals h.values) a.hot.marks) ≢ Wrong
 moves_typed {m} {st} {a} {h} {i} {rest} f pages d =
     whole_typed m pages (layer i) (around_of m st a h) (above a.hot.low h.opens) (own_operands a h) (data_typed m pages st a h i rest d (ruled f pages (layer i) refl))
 
-pub moves_fit : {m : Module} {st : Store} {a : Active} {h : Held} {i : Instr} {rest : Bor (List Instr)} → Front m st a h i rest → LieOnTop (operand_types m (layer i)) (own_operands a h)
+pub moves_fit : {m : Module} {st : Store} {a : Active} {h : Surroundings} {i : Instr} {rest : Bor (List Instr)} → Front m st a h i rest → LieOnTop (operand_types m (layer i)) (own_operands a h)
 moves_fit {m} {st} {a} {h} {i} {rest} f =
     let ts = operand_types m (layer i) in
     let own = above a.hot.low h.opens in
@@ -135,7 +135,7 @@ moves_fit {m} {st} {a} {h} {i} {rest} f =
     let e = fits m st a h i rest (layer i) f.of f.first refl in
     fits_whole ts own ops (fits_many ts (values_in own ops) e) e
 
-pub data_answered : {m : Module} {st : Store} {a : Active} {h : Held} {i : Instr} {rest : Bor (List Instr)} → Front m st a h i rest → (pages : ℕ) → IsData (layer i) → (memory globals values : List ℕ) (answer : Moved)
+pub data_answered : {m : Module} {st : Store} {a : Active} {h : Surroundings} {i : Instr} {rest : Bor (List Instr)} → Front m st a h i rest → (pages : ℕ) → IsData (layer i) → (memory globals values : List ℕ) (answer : Moved)
     → length h.values ≤ length values
     → Does (effect_of m pages (layer i) (seen (cells st.memory st.globals h.values) a.hot.marks)) (cells st.memory st.globals h.values) (cells memory globals values) a.hot.marks answer
     → Answered m (unit_at m pages (spot_at m st a h)) st (store_of memory globals st.table) h (held h.places h.codes values h.opens h.nexts) (turn_of (passed a rest) answer)

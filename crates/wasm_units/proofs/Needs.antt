@@ -20,12 +20,12 @@ use Rattle.wasm_blocks.specs.Levels.{Around, rest_of, first_of, values_in, level
 use Rattle.wasm_blocks.specs.Runs.{own_nexts}
 use Rattle.wasm_blocks.proofs.Cuts.{above_all, length_above}
 use Rattle.wasm_frames.specs.declared.active.Active.{Active}
-use Rattle.wasm_frames.specs.Standing.{Held, spot_at}
+use Rattle.wasm_frames.specs.Standing.{Surroundings, spot_at}
 use Rattle.wasm_frames.specs.Turns.{CanBranch}
 use Rattle.wasm_frames.specs.declared.callees.Callee.{Callee}
 use Rattle.wasm_frames.specs.declared.callees.Runs.{Runs}
 use Rattle.wasm_frames.specs.declared.callees.Runs.TheVariants as runs
-use Rattle.wasm_frames.specs.Callees.{IsRun, IsHost, AreCallees, HasArguments, AreTypes}
+use Rattle.wasm_frames.specs.Callees.{RunsWhenCalled, IsHost, AreCallees, HasArguments, AreTypes}
 use Rattle.wasm_frames.proofs.Calling.{found, some_there}
 use Rattle.wasm_frames.proofs.TableCalls.{through_same}
 use Rattle.wasm_semantics.specs.OfModule.{IsStore}
@@ -46,7 +46,7 @@ leave_none a code nexts [] ops e = refl
 leave_none a code nexts (o ∷ os) ops e = cc
 
 -- at the end of a function's own level
-pub leave_ends : (m : Module) (st : Store) (a : Active) (h : Held) → length h.opens ≡ a.hot.low → (let p = spot_at m st a h in leave p ≡ finish p p.level.values)
+pub leave_ends : (m : Module) (st : Store) (a : Active) (h : Surroundings) → length h.opens ≡ a.hot.low → (let p = spot_at m st a h in leave p ≡ finish p p.level.values)
 leave_ends m st a h e =
     let p = spot_at m st a h in
     leave_none (record { store = st; locals = p.locals; gives = p.gives; frames = p.frames }) a.hot.code.now (own_nexts a.hot.low h.opens h.nexts) (above a.hot.low h.opens) (own_operands a h) (above_all h.opens a.hot.low e)
@@ -70,7 +70,7 @@ branch_inside p (suc n) vs code nexts (o ∷ os) ops h =
     let r = branch_inside p n vs (rest_of o.loops (first_of nexts)) (drop 1 nexts) os (under o.height ops) h in
     (omega (arith, r.0), λ e. r.1 (omega (arith, e)))
 
-pub can_branch : (m : Module) (st : Store) (a : Active) (h : Held) (n : ℕ) → (let p = spot_at m st a h in branch_at p n p.level.values ≢ Stuck) → CanBranch a n h.values h.opens
+pub can_branch : (m : Module) (st : Store) (a : Active) (h : Surroundings) (n : ℕ) → (let p = spot_at m st a h in branch_at p n p.level.values ≢ Stuck) → CanBranch a n h.values h.opens
 can_branch m st a h n t =
     let p = spot_at m st a h in
     let own = above a.hot.low h.opens in
@@ -125,14 +125,14 @@ own_split : (m : Module) (x : ℕ) (fn : Function) (p : Spot) (vs : List ℕ) �
 own_split m x fn p vs e =
     ap (call_of m x p vs) (none_past x m.imports (found m x fn e).0) ∙ ap (λ o. with_some Stuck o (λ fn. split Stuck (length fn.signature.params) vs (opened fn p))) e
 
-run_takes : (m : Module) (x n : ℕ) (r : Runs) (p : Spot) (vs : List ℕ) → IsRun m x n r → call m x p vs ≢ Stuck → n ≤ length vs
+run_takes : (m : Module) (x n : ℕ) (r : Runs) (p : Spot) (vs : List ℕ) → RunsWhenCalled m x n r → call m x p vs ≢ Stuck → n ≤ length vs
 run_takes m x n (runs.Host name) p vs i h =
     omega (arith, i.takes, split_there (length (host_params name)) vs (asked name p) (λ s. h (host_split m x n name p vs i ∙ s)))
 run_takes m x n (runs.Own e) p vs i h =
     omega (arith, i.takes, split_there (length i.function.signature.params) vs (opened i.function p) (λ s. h (own_split m x i.function p vs i.member ∙ s)))
 
 -- so are its arguments
-pub call_takes : (m : Module) (rows : List Callee) (x : ℕ) (st : Store) (a : Active) (h : Held) → AreCallees m rows → (let p = spot_at m st a h in call m x p p.level.values ≢ Stuck) → HasArguments rows x a h.values h.opens
+pub call_takes : (m : Module) (rows : List Callee) (x : ℕ) (st : Store) (a : Active) (h : Surroundings) → AreCallees m rows → (let p = spot_at m st a h in call m x p p.level.values ≢ Stuck) → HasArguments rows x a h.values h.opens
 call_takes m rows x st a h cs t c e = let p = spot_at m st a h in run_takes m x c.params c.runs p p.level.values (cs.each x c e).runs t
 
 type_there_by : (m : Module) (x : ℕ) (ft : FuncType) (b : Bool) → nat_lt x (length m.imports) ≡ b → (if b then import_of m x else own_type m (x - length m.imports)) ≡ Some ft → x < function_count m
@@ -147,7 +147,7 @@ unfolding type_of
 type_there m x ft e = type_there_by m x ft (nat_lt x (length m.imports)) refl e
 
 -- a call through the table
-pub types_there : (m : Module) (rows : List Callee) (kind at : ℕ) (st : Store) (a : Active) (h : Held) → AreCallees m rows → IsStore m st
+pub types_there : (m : Module) (rows : List Callee) (kind at : ℕ) (st : Store) (a : Active) (h : Surroundings) → AreCallees m rows → IsStore m st
     → ((wanted : FuncType) → slice_get m.types kind ≡ Some wanted → (let p = spot_at m st a h in indirect m wanted p p.level.values (slice_get st.table at) ≢ Stuck))
     → AreTypes m rows kind st.table at a h.values h.opens
 types_there m rows kind at st a h cs s t x e =

@@ -11,7 +11,7 @@ use Rattle.wasm_data.specs.Cuts.{above}
 use Rattle.wasm_blocks.specs.declared.hot.Hot.{Hot}
 use Rattle.wasm_blocks.specs.declared.open.Open.{Open}
 use Rattle.wasm_blocks.specs.Rest.{Placed, part_of}
-use Rattle.wasm_blocks.specs.Runs.{Outer, GoesOn, place, own_nexts}
+use Rattle.wasm_blocks.specs.Runs.{Outer, GoesOnAnywhere, place, own_nexts}
 use Rattle.wasm_frames.specs.declared.active.Active.{Active}
 use Rattle.wasm_frames.specs.declared.active.Place.{Place}
 use Rattle.wasm_frames.specs.declared.turns.Turn.{Turn}
@@ -29,7 +29,7 @@ pub entered : {E : Type 0} (m : Module) (pages : ℕ) (st : Store) (i : Instr) (
     → Placed (body_of m q.function) (i ∷ q.hot.code.now) (own_nexts q.hot.low os ns) (above q.hot.low os)
     → act m pages i y (spot_at m st a (held ps cs values os ns)) ≡ (let p = spot_at m st q (held ps cs values os ns) in enter p p.level.values code keeps next)
     → next ≡ (if loops then i ∷ q.hot.code.now else q.hot.code.now) → part_of second (layer i) ≡ code
-    → IfOk r (λ now. GoesOn (λ b. let p = place b q.hot values os ns in enter p p.level.values code keeps next) q.hot now values values os os' ns ns')
+    → IfOk r (λ now. GoesOnAnywhere (λ b. let p = place b q.hot values os ns in enter p p.level.values code keeps next) q.hot now values values os os' ns ns')
     → IfOk r (λ now. (body : List Instr) (j : Instr) → Placed body (j ∷ q.hot.code.now) (own_nexts q.hot.low os ns) (above q.hot.low os) →
     next ≡ (if loops then j ∷ q.hot.code.now else q.hot.code.now) → part_of second (layer j) ≡ code → Placed body now.code.now (own_nexts now.low os' ns') (above now.low os'))
     → Answered m (act m pages i y (spot_at m st a (held ps cs values os ns))) st st (held ps cs values os ns) (held ps cs values os' ns') answer

@@ -24,10 +24,10 @@ use Rattle.wasm_frames.specs.declared.active.Place.{Place}
 use Rattle.wasm_frames.specs.declared.callees.Callee.{Callee}
 use Rattle.wasm_frames.specs.declared.callees.Runs.TheVariants as runs
 use Rattle.wasm_frames.specs.Callees.{IsCallee, AreCallees}
-use Rattle.wasm_frames.specs.Standing.{Held, held, store_of, spot_at, thread_in, IsStanding, IsPlaced}
+use Rattle.wasm_frames.specs.Standing.{Surroundings, held, store_of, spot_at, thread_in, IsStanding, IsPlaced}
 
 -- one unit more
-pub still : (m : Module) (pages : ℕ) (st st' : Store) (a a' : Active) (h h' : Held) → Valid m → IsOf m (thread_in m st a h) → limited (unit_at m pages (spot_at m st a h)) ≡ Goes (thread_in m st' a' h')
+pub still : (m : Module) (pages : ℕ) (st st' : Store) (a a' : Active) (h h' : Surroundings) → Valid m → IsOf m (thread_in m st a h) → limited (unit_at m pages (spot_at m st a h)) ≡ Goes (thread_in m st' a' h')
     → IsOf m (thread_in m st' a' h')
 unfolding unit
 still m pages st st' a a' h h' valid of e =
@@ -98,7 +98,7 @@ start_is_of code memory ec em =
     subst (IsOf spin) (sym e) (begin_is_of spin spin_valid)
 
 -- all at once
-pub record Started (m : Module) (code : Bor (List Instr)) (memory : List ℕ) (h : Held) : Type 0 where
+pub record Started (m : Module) (code : Bor (List Instr)) (memory : List ℕ) (h : Surroundings) : Type 0 where
   pub stands : IsStanding (start code) h
   pub placed : IsPlaced m (start code) h
   pub of : IsOf m (thread_in m (store_of memory [] []) (start code) h)

@@ -31,14 +31,14 @@ use Rattle.wasm_blocks.specs.Levels.{Around, values_in, spot_in}
 use Rattle.wasm_blocks.specs.Runs.{own_nexts}
 use Rattle.wasm_blocks.proofs.Levels.{height_of, spot_more}
 use Rattle.wasm_frames.specs.declared.active.Active.{Active}
-use Rattle.wasm_frames.specs.Standing.{Held, spot_at, thread_in, IsStanding}
+use Rattle.wasm_frames.specs.Standing.{Surroundings, spot_at, thread_in, IsStanding}
 use Rattle.wasm_frames.proofs.FewerOperands.{own_operands, with_sp, sp_room}
 
 -- behind the instruction
 abbrev pub passed : Active → Bor (List Instr) → Active
 passed a rest = record { hot = record { code = rest; marks = a.hot.marks; low = a.hot.low }; function = a.function; gives = a.gives }
 
-pub passed_stands : (a : Active) (h : Held) (rest : Bor (List Instr)) → IsStanding a h → IsStanding (passed a rest) h
+pub passed_stands : (a : Active) (h : Surroundings) (rest : Bor (List Instr)) → IsStanding a h → IsStanding (passed a rest) h
 passed_stands a h rest s = record {
   here = record { within = s.here.within; low = s.here.low; many = s.here.many; tower = s.here.tower };
   begins = s.begins;
@@ -46,26 +46,26 @@ passed_stands a h rest s = record {
   warm = s.warm;
 }
 
-pub takes : (m : Module) (pages : ℕ) (st : Store) (a : Active) (h : Held) (i : Instr) (rest : Bor (List Instr)) (y : Layer) → a.hot.code.now ≡ i ∷ rest.now → layer i ≡ y
+pub takes : (m : Module) (pages : ℕ) (st : Store) (a : Active) (h : Surroundings) (i : Instr) (rest : Bor (List Instr)) (y : Layer) → a.hot.code.now ≡ i ∷ rest.now → layer i ≡ y
     → unit_at m pages (spot_at m st a h) ≡ act m pages i y (spot_at m st (passed a rest) h)
 takes m pages st a h i rest y e l =
     let p = spot_at m st a h in
     ap (λ c. unit_front m pages c p) e ∙ ap (λ y. act m pages i y (spot_at m st (passed a rest) h)) l
 
-pub ends : (m : Module) (pages : ℕ) (st : Store) (a : Active) (h : Held) → a.hot.code.now ≡ [] → unit_at m pages (spot_at m st a h) ≡ leave (spot_at m st a h)
+pub ends : (m : Module) (pages : ℕ) (st : Store) (a : Active) (h : Surroundings) → a.hot.code.now ≡ [] → unit_at m pages (spot_at m st a h) ≡ leave (spot_at m st a h)
 ends m pages st a h e = let p = spot_at m st a h in ap (λ c. unit_front m pages c p) e
 
-pub typed : (m : Module) (pages : ℕ) (st : Store) (a : Active) (h : Held) → Valid m → IsOf m (thread_in m st a h) → unit_at m pages (spot_at m st a h) ≢ Stuck
+pub typed : (m : Module) (pages : ℕ) (st : Store) (a : Active) (h : Surroundings) → Valid m → IsOf m (thread_in m st a h) → unit_at m pages (spot_at m st a h) ≢ Stuck
 unfolding unit
 typed m pages st a h valid of stuck =
     let s : Sound m (limited (unit_at m pages (spot_at m st a h))) = unit_sound m pages (thread_in m st a h) valid of in
     subst (λ o. Sound m (limited o)) stuck s
 
-pub typed_act : (m : Module) (pages : ℕ) (st : Store) (a : Active) (h : Held) (i : Instr) (rest : Bor (List Instr)) (y : Layer) → Valid m → IsOf m (thread_in m st a h) → a.hot.code.now ≡ i ∷ rest.now → layer i ≡ y
+pub typed_act : (m : Module) (pages : ℕ) (st : Store) (a : Active) (h : Surroundings) (i : Instr) (rest : Bor (List Instr)) (y : Layer) → Valid m → IsOf m (thread_in m st a h) → a.hot.code.now ≡ i ∷ rest.now → layer i ≡ y
     → act m pages i y (spot_at m st (passed a rest) h) ≢ Stuck
 typed_act m pages st a h i rest y valid of e l stuck = typed m pages st a h valid of (takes m pages st a h i rest y e l ∙ stuck)
 
-pub fits : (m : Module) (st : Store) (a : Active) (h : Held) (i : Instr) (rest : Bor (List Instr)) (y : Layer) → IsOf m (thread_in m st a h) → a.hot.code.now ≡ i ∷ rest.now → layer i ≡ y
+pub fits : (m : Module) (st : Store) (a : Active) (h : Surroundings) (i : Instr) (rest : Bor (List Instr)) (y : Layer) → IsOf m (thread_in m st a h) → a.hot.code.now ≡ i ∷ rest.now → layer i ≡ y
     → LieOnTop (operand_types m y) (values_in (above a.hot.low h.opens) (own_operands a h))
 fits m st a h i rest y of e l =
     let p = spot_at m st (passed a rest) h in
@@ -77,17 +77,17 @@ pub fits_many : (ts : List ValType) (vs : List ℕ) → LieOnTop ts vs → lengt
 fits_many ts vs f = omega (arith, holds_length ts (take (length ts) vs) f, length-take (length ts) vs)
 
 -- an operand on top
-pub pops : (m : Module) (st : Store) (a : Active) (h : Held) (i : Instr) (rest : Bor (List Instr)) (y : Layer) (ts : List ValType) → IsOf m (thread_in m st a h) → a.hot.code.now ≡ i ∷ rest.now → layer i ≡ y
+pub pops : (m : Module) (st : Store) (a : Active) (h : Surroundings) (i : Instr) (rest : Bor (List Instr)) (y : Layer) (ts : List ValType) → IsOf m (thread_in m st a h) → a.hot.code.now ≡ i ∷ rest.now → layer i ≡ y
     → operand_types m y ≡ I32 ∷ ts → 1 ≤ length (values_in (above a.hot.low h.opens) (own_operands a h))
 pops m st a h i rest y ts of e l t =
     let vs = values_in (above a.hot.low h.opens) (own_operands a h) in
     omega (arith, fits_many (I32 ∷ ts) vs (subst (λ ts. LieOnTop ts vs) t (fits m st a h i rest y of e l)))
 
-pub pop_room : (a : Active) (h : Held) → IsStanding a h → 1 ≤ length (values_in (above a.hot.low h.opens) (own_operands a h)) → a.hot.marks.floor < a.hot.marks.sp
+pub pop_room : (a : Active) (h : Surroundings) → IsStanding a h → 1 ≤ length (values_in (above a.hot.low h.opens) (own_operands a h)) → a.hot.marks.floor < a.hot.marks.sp
 pop_room a h s le = omega (arith, sp_room a h 1 s le)
 
 -- with it taken off
-pub spot_popped : (m : Module) (st : Store) (a : Active) (h : Held) (v : ℕ) → IsStanding a h → 1 ≤ length (values_in (above a.hot.low h.opens) (own_operands a h))
+pub spot_popped : (m : Module) (st : Store) (a : Active) (h : Surroundings) (v : ℕ) → IsStanding a h → 1 ≤ length (values_in (above a.hot.low h.opens) (own_operands a h))
     → own_operands a h ≡ v ∷ operands_in a.hot.marks.floor (a.hot.marks.sp - 1) h.values
     → (let q = spot_at m st (with_sp a (a.hot.marks.sp - 1)) h in spot_at m st a h ≡ spot_with q (v ∷ q.level.values) a.hot.code.now)
 spot_popped m st a h v s le e =

@@ -20,11 +20,11 @@ use Rattle.wasm_frames.specs.declared.active.Place.{Place}
 use Rattle.wasm_frames.specs.declared.turns.Turn.{Turn}
 use Rattle.wasm_frames.specs.declared.turns.Turn.TheVariants as turn
 use Rattle.wasm_frames.specs.Resting.{body_of}
-use Rattle.wasm_frames.specs.Standing.{Held, held, spot_at, IsStanding, IsPlaced}
+use Rattle.wasm_frames.specs.Standing.{Surroundings, held, spot_at, IsStanding, IsPlaced}
 use Rattle.wasm_frames.specs.Turns.{Answered}
 
 -- some module has a rule for the instruction there
-pub record CanAct (y : Layer) (a : Active) (h : Held) : Type 0 where
+pub record CanAct (y : Layer) (a : Active) (h : Surroundings) : Type 0 where
   pub program : Module
   pub pages : ℕ
   pub instr : Instr
@@ -32,13 +32,13 @@ pub record CanAct (y : Layer) (a : Active) (h : Held) : Type 0 where
   pub ruled : act program pages instr y (spot_at program store a h) ≢ Stuck
 
 -- the frame runs behind this instruction, and all slices are what the numbers say
-pub record IsBehind (m : Module) (i : Instr) (y : Layer) (a : Active) (h : Held) : Type 0 where
+pub record IsBehind (m : Module) (i : Instr) (y : Layer) (a : Active) (h : Surroundings) : Type 0 where
   pub is : layer i ≡ y
   pub front : Placed (body_of m a.function) (i ∷ a.hot.code.now) (own_nexts a.hot.low h.opens h.nexts) (above a.hot.low h.opens)
   pub placed : IsPlaced m a h
 
 -- whatever the module and the store are, what was answered is what the instruction comes to
-abbrev pub Acts : Instr → Layer → Active → Held → Held → Turn → Type 0
+abbrev pub Acts : Instr → Layer → Active → Surroundings → Surroundings → Turn → Type 0
 Acts i y a was h answer =
     (m : Module) (pages : ℕ) (store : Store) → IsBehind m i y a was →
     Answered m (act m pages i y (spot_at m store a was)) store store was h answer
@@ -57,8 +57,8 @@ StandsOver a values opens nexts =
     (places : List Place) × (codes : List (Bor (List Instr))) × IsStanding a (held places codes values opens nexts)
 
 -- the innermost level has an operand
-abbrev pub HasTop : Active → List ℕ → List Open → Type 0
-HasTop a values opens = 0 < length (values_in (above a.hot.low opens) (operands_in a.hot.marks.floor a.hot.marks.sp values))
+abbrev pub HasOperand : Active → List ℕ → List Open → Type 0
+HasOperand a values opens = 0 < length (values_in (above a.hot.low opens) (operands_in a.hot.marks.floor a.hot.marks.sp values))
 
 -- on in a block, where there was memory to open it
 abbrev pub inside_of : {E : Type 0} → Active → Result Hot E → Turn

@@ -5,7 +5,7 @@ ghost use Rattle.wasm_ast.specs.declared.trees.Instr.{Instr as Instruction};
 ghost use Rattle.wasm_ast.specs.declared.trees.Instr.TheOpen.{Instr-F};
 ghost use Rattle.wasm_ast.specs.Typing.{results};
 ghost use Rattle.wasm_semantics.specs.Operators.{truth};
-ghost use Rattle.wasm_units.specs.Acts.{StandsOver, HasTop, Enters, inside_of};
+ghost use Rattle.wasm_units.specs.Acts.{StandsOver, HasOperand, Enters, inside_of};
 
 use std::alloc::AllocError;
 use wasm_ast::{BlockType, Instr, Seq};
@@ -114,7 +114,7 @@ pub(crate) fn open_if<'m>(
     nexts: &mut Stack<&'m [Instr]>,
 ) -> Turn<'m>
     requires stands { StandsOver active values.now opens.old nexts.old }
-    requires some { HasTop active values.now opens.old }
+    requires some { HasOperand active values.now opens.old }
     ensures { (i : Instruction) → let block = Instr-F.If block_type first.now second.now in
         Enters i block active.entry values.now opens.old opens.new nexts.old nexts.new result }
 {

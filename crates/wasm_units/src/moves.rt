@@ -7,7 +7,7 @@ ghost use Rattle.wasm_semantics.specs.Data.{Wrong, effect_of};
 ghost use Rattle.wasm_semantics.specs.Operands.{operand_types, LieOnTop};
 ghost use Rattle.wasm_data.specs.declared.moved.Moved.{Moved as Answer};
 ghost use Rattle.wasm_data.specs.Effects.{Does, cells, seen};
-ghost use Rattle.wasm_data.specs.Marked.{IsWithin, operands_in};
+ghost use Rattle.wasm_data.specs.Marked.{AreInArray, operands_in};
 ghost use Rattle.wasm_units.specs.Acts.{turn_of};
 
 use wasm_ast::{Instr, Module};
@@ -26,7 +26,7 @@ pub(crate) fn moves<'m>(
     active: Active<'m>,
     instr: &Instr,
 ) -> Turn<'m>
-    requires within { IsWithin active.hot.marks (length values.old) }
+    requires within { AreInArray active.hot.marks (length values.old) }
     requires maximum { page_limit program.now ≡ memory.old.maximum }
     requires typed { let before = cells memory.old.bytes globals.old values.old in
         effect_of program.now pages (layer instr.now) (seen before active.hot.marks) ≢ Wrong }

@@ -8,7 +8,7 @@ use Rattle.wasm_ast.specs.Validity.{Invalidity, Valid}
 use Rattle.wasm_ast.proofs.OneFault.{one_fault, no_fault}
 use Rattle.wasm_validate.specs.declared.invalid.Invalid.{Invalid}
 use Rattle.wasm_validate.specs.declared.invalid.Invalid.TheVariants as invalid
-use Rattle.wasm_validate.specs.Invalids.{fault_of, OfFault, IsRefused, Tells}
+use Rattle.wasm_validate.specs.Invalids.{fault_of, OfFault, IsRefused, IsToldAs}
 
 pub only_for_memory : (m : Module) (told : Invalid) → IsRefused m told → Valid m → told ≡ invalid.NoMemory
 only_for_memory m (invalid.Float place) h v = absurd (no_fault m (fault.Float place) v h)
@@ -23,5 +23,5 @@ same : (m : Module) (o : Option Fault) (f : Fault) → OfFault (Invalidity m) o 
 same m None f h e = tt
 same m (Some g) f h e = one_fault m g f h e
 
-pub tells_the_fault : (m : Module) (told : Invalid) (f : Fault) → IsRefused m told → Invalidity m f → Tells f told
+pub tells_the_fault : (m : Module) (told : Invalid) (f : Fault) → IsRefused m told → Invalidity m f → IsToldAs f told
 tells_the_fault m told f h e = same m (fault_of told) f h e

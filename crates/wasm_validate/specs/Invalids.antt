@@ -23,8 +23,8 @@ OfFault P None = Unit {0}
 OfFault P (Some f) = P f
 
 -- this fault is what is told, unless out of memory
-abbrev pub Tells : Fault → Invalid → Type 0
-Tells f told = OfFault (λ g. g ≡ f) (fault_of told)
+abbrev pub IsToldAs : Fault → Invalid → Type 0
+IsToldAs f told = OfFault (λ g. g ≡ f) (fault_of told)
 
 -- the module is refused for what is told, unless out of memory
 abbrev pub IsRefused : Module → Invalid → Type 0

@@ -5,7 +5,7 @@ ghost use Rattle.wasm_ast.specs.declared.modules.Module.{Module};
 ghost use Rattle.wasm_ast.specs.Faults.{Fault};
 ghost use Rattle.wasm_ast.specs.Validity.{early_fault, handle_of, Invalidity, IsBodyTyped, IsSmall, Valid};
 ghost use Rattle.wasm_ast.specs.Hosts.{host_of};
-ghost use Rattle.wasm_validate.specs.Invalids.{IsRefused, Tells};
+ghost use Rattle.wasm_validate.specs.Invalids.{IsRefused, IsToldAs};
 
 use crate::floats::find_float;
 use crate::hosts::{host_call, other_import};
@@ -128,7 +128,7 @@ pub fn validate(alloc: Global, program: Module) -> Result<ValidModule, (Module, 
     ensures ok { IfOk result (λ valid. (valid ≡ program) × Valid program) }
     ensures err { IfErr result (λ refused. (refused.0 ≡ program) × IsRefused program refused.1) }
     ensures valid { Valid program → IfErr result (λ refused. refused.1 ≡ Invalid.NoMemory) }
-    ensures fault { (f : Fault) → Invalidity program f → MatchResult result (λ valid. ⊥) (λ refused. Tells f refused.1) }
+    ensures fault { (f : Fault) → Invalidity program f → MatchResult result (λ valid. ⊥) (λ refused. IsToldAs f refused.1) }
 {
     if let Err(invalid) = test_early(alloc, &program) {
         return Err((program, invalid));

@@ -3,7 +3,7 @@ use Rattle.event_file.specs.declared.entry.Entry.{Entry}
 use Rattle.trapeze_host.specs.Standing.{policy_lent, modules_lent, is_spent, played_in, Stands}
 use Rattle.trapeze_cli.specs.Played.{events_of}
 use Rattle.trapeze_cli.specs.Runs.{setting_of}
-use Rattle.trapeze_cli.specs.Playing.{CanPlay, IsPaced, PlaysOn, Passes}
+use Rattle.trapeze_cli.specs.Playing.{CanPlay, IsPaced, PlaysOn, HasPassed}
 use Rattle.trapeze_cli.proofs.stream.play_lines.Given as goal
 
 -- the entries so far are passed and played
@@ -11,7 +11,7 @@ abbrev pub invariant-lines : goal.invariant-lines
 invariant-lines g l = record {
   good : l.reader.bad ≡ None;
   entries : List Entry;
-  passes : Passes l.initial.reader l.reader entries;
+  passes : HasPassed l.initial.reader l.reader entries;
   plays : PlaysOn {A = Unit {0}} (setting_of l.scene.policy.now (modules_lent l.initial.host) l.scene.shown) (Stands g.T.Facets.rows l.initial.host) (Stands g.T.Facets.rows l.host)
       (events_of entries) (Ok tt) (g.S.Sink.written l.initial.out) (g.S.Sink.written l.out);
   can : CanPlay l.scene.policy.now (policy_lent l.host) (is_spent l.host);

@@ -1,6 +1,6 @@
 use Rattle.std.proofs.Common.{◌∙◌, sym, subst}
 use Rattle.std.proofs.lemmas.Result.{err_from_is_err_and}
-use Rattle.wasm_code.specs.Answers.{place, Stops}
+use Rattle.wasm_code.specs.Answers.{place, IsFirstFault}
 use Rattle.wasm_code.proofs.Stepping.{smaller, goes, ends}
 use Rattle.wasm_code.proofs.Runs.{fails, begins}
 use Rattle.wasm_code.proofs.reader.expr.Goals as goal
@@ -30,4 +30,4 @@ pub returns-in_err-step : goal.returns-in_err-step
 returns-in_err-step c =
     let old = c.opcodes.reader in
     let p = err_from_is_err_and c.from_residual.result c.from_residual.ensures.1 in
-    rw (p.1, p.2) (subst (Stops c.in_err-step.field-0.0) c.opcodes.invariant (fails old.frames old.items (place old.input) c.in_err-step.field-0.0 c.in_err-step.ensures))
+    rw (p.1, p.2) (subst (IsFirstFault c.in_err-step.field-0.0) c.opcodes.invariant (fails old.frames old.items (place old.input) c.in_err-step.field-0.0 c.in_err-step.ensures))

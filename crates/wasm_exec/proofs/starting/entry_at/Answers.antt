@@ -4,7 +4,7 @@ use Rattle.std.proofs.lemmas.Option.{slice_get-get_or}
 use Rattle.wasm_ast.specs.declared.hosts.HostName.TheVariants.{Input}
 use Rattle.wasm_frames.specs.declared.callees.Callee.{Callee}
 use Rattle.wasm_frames.specs.declared.callees.Runs.TheVariants as runs
-use Rattle.wasm_frames.specs.Callees.{IsRun}
+use Rattle.wasm_frames.specs.Callees.{RunsWhenCalled}
 use Rattle.wasm_exec.proofs.Entries.{entry_within, never_host}
 use Rattle.wasm_exec.proofs.starting.entry_at.Goals as goal
 
@@ -21,7 +21,7 @@ unreachable-requires c =
     let rows = c.args.callees.now in
     let row = slice_index_or rows x no_row in
     let there = slice_get-get_or rows x no_row (omega (arith, entry_within m x c.requires.valid c.requires.entry, c.requires.callees.many)) in
-    never_host m x row.params c.in-Host.field-0 c.requires.valid c.requires.entry (subst (IsRun m x row.params) c.in-Host.is (c.requires.callees.each x row there).runs)
+    never_host m x row.params c.in-Host.field-0 c.requires.valid c.requires.entry (subst (RunsWhenCalled m x row.params) c.in-Host.is (c.requires.callees.each x row there).runs)
 
 pub returns : goal.returns
 returns c =
@@ -30,4 +30,4 @@ returns c =
     let rows = c.args.callees.now in
     let row = slice_index_or rows x no_row in
     let there = slice_get-get_or rows x no_row (omega (arith, entry_within m x c.requires.valid c.requires.entry, c.requires.callees.many)) in
-    (row.params, subst (IsRun m x row.params) c.in-Own.is (c.requires.callees.each x row there).runs)
+    (row.params, subst (RunsWhenCalled m x row.params) c.in-Own.is (c.requires.callees.each x row there).runs)

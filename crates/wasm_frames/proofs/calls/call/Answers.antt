@@ -7,9 +7,9 @@ use Rattle.wasm_frames.specs.declared.callees.Callee.{Callee}
 use Rattle.wasm_frames.specs.declared.callees.Runs.TheVariants as runs
 use Rattle.wasm_semantics.specs.Control.{call as called}
 use Rattle.wasm_frames.specs.Standing.{held, spot_at}
-use Rattle.wasm_frames.specs.Callees.{IsRun}
+use Rattle.wasm_frames.specs.Callees.{RunsWhenCalled}
 use Rattle.wasm_frames.specs.Resting.{code_of}
-use Rattle.wasm_frames.specs.Turns.{HasAsked}
+use Rattle.wasm_frames.specs.Turns.{AsksHost}
 use Rattle.wasm_frames.proofs.FewerOperands.{sp_room}
 use Rattle.wasm_frames.proofs.Calling.{Opened, body_found, some_there, not_there, get_at, call_asks, call_goes}
 use Rattle.wasm_frames.proofs.Counts.{past_call}
@@ -32,28 +32,28 @@ open_frame-requires-clause-params c = omega (arith, sp_room c.args.active (held 
 
 pub returns-then-entry-values : goal.returns-then-entry-values
 returns-then-entry-values c st pl =
-    let e = subst (IsRun c.args.program.now c.args.index (slice_index_or c.args.callees.now c.args.index no_row).params) c.in-Own.is (c.requires.callees.each c.args.index (slice_index_or c.args.callees.now c.args.index no_row) (row_at c.args.callees.now c.args.index c.requires.there)).runs in
+    let e = subst (RunsWhenCalled c.args.program.now c.args.index (slice_index_or c.args.callees.now c.args.index no_row).params) c.in-Own.is (c.requires.callees.each c.args.index (slice_index_or c.args.callees.now c.args.index no_row) (row_at c.args.callees.now c.args.index c.requires.there)).runs in
     (refl, refl, past_call c.args.program.now st c.args.active (held c.args.places.now c.args.codes.now c.args.values.now c.args.opens.now c.args.nexts.now) c.args.index (slice_index_or c.args.callees.now c.args.index no_row).params c.in-Own.entry e c.requires.stands (c.requires.takes (slice_index_or c.args.callees.now c.args.index no_row) (row_at c.args.callees.now c.args.index c.requires.there)) (omega (arith, c.if-entry-values.true)))
 
 pub unreachable-requires : goal.unreachable-requires
 unreachable-requires c =
-    let e = subst (IsRun c.args.program.now c.args.index (slice_index_or c.args.callees.now c.args.index no_row).params) c.in-Own.is (c.requires.callees.each c.args.index (slice_index_or c.args.callees.now c.args.index no_row) (row_at c.args.callees.now c.args.index c.requires.there)).runs in
+    let e = subst (RunsWhenCalled c.args.program.now c.args.index (slice_index_or c.args.callees.now c.args.index no_row).params) c.in-Own.is (c.requires.callees.each c.args.index (slice_index_or c.args.callees.now c.args.index no_row) (row_at c.args.callees.now c.args.index c.requires.there)).runs in
     let b = body_found c.args.program.now c.args.index (slice_index_or c.args.callees.now c.args.index no_row).params c.in-Own.entry e in
     not_there (length c.bodies.result.now) c.in-Own.entry.function c.in_default.ensures.lookup.0 (omega (arith, some_there c.args.program.now.bodies c.in-Own.entry.function b.0 b.1, ap length c.bodies.ensures))
 
 pub returns-in-Host : goal.returns-in-Host
 returns-in-Host c st pl =
-    let host = subst (IsRun c.args.program.now c.args.index (slice_index_or c.args.callees.now c.args.index no_row).params) c.in-Host.is (c.requires.callees.each c.args.index (slice_index_or c.args.callees.now c.args.index no_row) (row_at c.args.callees.now c.args.index c.requires.there)).runs in
+    let host = subst (RunsWhenCalled c.args.program.now c.args.index (slice_index_or c.args.callees.now c.args.index no_row).params) c.in-Host.is (c.requires.callees.each c.args.index (slice_index_or c.args.callees.now c.args.index no_row) (row_at c.args.callees.now c.args.index c.requires.there)).runs in
     let h = (held c.args.places.now c.args.codes.now c.args.values.now c.args.opens.now c.args.nexts.now) in
     let p = spot_at c.args.program.now st c.args.active h in
-    let P : Active → Type 0 = λ a. HasAsked c.args.program.now (called c.args.program.now c.args.index p p.level.values) st h c.in-Host.name a in (
+    let P : Active → Type 0 = λ a. AsksHost c.args.program.now (called c.args.program.now c.args.index p p.level.values) st h c.in-Host.name a in (
       subst P (sym c.with_sp.ensures) (call_asks c.args.program.now st c.args.active h c.args.index (slice_index_or c.args.callees.now c.args.index no_row).params c.in-Host.name host c.requires.stands pl (c.requires.takes (slice_index_or c.args.callees.now c.args.index no_row) (row_at c.args.callees.now c.args.index c.requires.there))),
       record { frames = omega arith; blocks = omega arith },
     )
 
 pub returns-in-Ok-push : goal.returns-in-Ok-push
 returns-in-Ok-push c st pl =
-    let e = subst (IsRun c.args.program.now c.args.index (slice_index_or c.args.callees.now c.args.index no_row).params) c.in-Own.is (c.requires.callees.each c.args.index (slice_index_or c.args.callees.now c.args.index no_row) (row_at c.args.callees.now c.args.index c.requires.there)).runs in
+    let e = subst (RunsWhenCalled c.args.program.now c.args.index (slice_index_or c.args.callees.now c.args.index no_row).params) c.in-Own.is (c.requires.callees.each c.args.index (slice_index_or c.args.callees.now c.args.index no_row) (row_at c.args.callees.now c.args.index c.requires.there)).runs in
     let h = (held c.args.places.now c.args.codes.now c.args.values.now c.args.opens.now c.args.nexts.now) in
     let got = c.in-Some.ensures.lookup in
     let body = get_at c.bodies.result.now c.args.program.now.bodies c.in-Own.entry.function c.in-Own.entry.function c.in-Some.body.now c.bodies.ensures refl got.3.0 got.1 in

@@ -6,7 +6,7 @@ use Rattle.wasm_ast.specs.Trees.{layer, layer_unreachable, layer_nop, layer_bloc
 use Rattle.wasm_ast.specs.Typing.{results, Types, Changes}
 use Rattle.wasm_typing.specs.declared.operands.Operands.{Operands}
 use Rattle.wasm_typing.specs.Operands.{Stand, Image}
-use Rattle.wasm_typing.specs.Scopes.{Effect, Stepped, context_in, labels_of}
+use Rattle.wasm_typing.specs.Scopes.{TypeEffect, Stepped, context_in, labels_of}
 use Rattle.wasm_typing.proofs.Images.{nothing_done}
 use Rattle.wasm_typing.proofs.Effects.{if_ok}
 use Rattle.wasm_typing.proofs.Codes.{plain_stepped, effects_stepped, effect_stepped, block_stepped, block_refused, loop_stepped, loop_refused, if_stepped, first_refused, second_refused, untyped_stepped, begins, goes_on, ends_here, yes, no_}
@@ -30,7 +30,7 @@ check_instr-returns-in-BrIf-clause-effect t c =
 
 pub check_instr-returns-in-BrTable-clause-effect : goal.check_instr-returns-in-BrTable-clause-effect
 check_instr-returns-in-BrTable-clause-effect t c =
-    plain_stepped c.args.scope c.args.labels.now c.args.instr.now c.args.operands.now c.branch_table.new.operands (Instr-F.BrTable c.in-BrTable.targets c.in-BrTable.default) c.branch_table.result (ap layer c.in-BrTable.is ∙ layer_br_table c.in-BrTable.targets c.in-BrTable.default) tt (subst (λ ns. Effect c.args.scope c.args.labels.now (Instr-F.BrTable ns c.in-BrTable.default) c.args.operands.now c.branch_table.new.operands c.branch_table.result) c.items-in-BrTable.ensures c.branch_table.ensures)
+    plain_stepped c.args.scope c.args.labels.now c.args.instr.now c.args.operands.now c.branch_table.new.operands (Instr-F.BrTable c.in-BrTable.targets c.in-BrTable.default) c.branch_table.result (ap layer c.in-BrTable.is ∙ layer_br_table c.in-BrTable.targets c.in-BrTable.default) tt (subst (λ ns. TypeEffect c.args.scope c.args.labels.now (Instr-F.BrTable ns c.in-BrTable.default) c.args.operands.now c.branch_table.new.operands c.branch_table.result) c.items-in-BrTable.ensures c.branch_table.ensures)
 
 pub check_instr-returns-in-Return-clause-effect : goal.check_instr-returns-in-Return-clause-effect
 check_instr-returns-in-Return-clause-effect t c =

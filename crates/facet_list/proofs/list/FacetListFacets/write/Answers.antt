@@ -3,7 +3,7 @@ use Rattle.std.specs.Prelude.{is_ok}
 use Rattle.std.specs.Option.{option_copied}
 use Rattle.facet_list.specs.declared.facets.Wrote.TheVariants as Wrote
 use Rattle.facet_list.specs.Store.{Write, written}
-use Rattle.facet_list.specs.Rows.{rows_of, IsStore, IsSized}
+use Rattle.facet_list.specs.Rows.{rows_of, AreStoreRows, IsSized}
 use Rattle.facet_list.proofs.RowLaws.{rows_of-push}
 use Rattle.facet_list.proofs.Sizes.{store_push}
 use Rattle.facet_list.proofs.Tallies.{fits_told}
@@ -13,7 +13,7 @@ pub invariant_of-self : goal.invariant_of-self
 invariant_of-self c =
     let sized : IsSized c.args.key.now (option_copied c.args.value) = record { key_fits = c.requires.key; value_fits = c.requires.value } in
     record {
-      sound = subst (λ (w : List Write). IsStore (length c.args.self.now.limits.items) (rows_of w)) (sym c.push.ensures.items)
+      sound = subst (λ (w : List Write). AreStoreRows (length c.args.self.now.limits.items) (rows_of w)) (sym c.push.ensures.items)
           (store_push (length c.args.self.now.limits.items) (is_ok c.push.result) c.args.self.now.writes.items c.in-Ok.write c.args.self.now.sound
           (subst (λ (x : Write). IsSized x.key x.value) (sym c.in-Ok.ensures) sized) (subst (λ (x : Write). x.label < length c.args.self.now.limits.items) (sym c.in-Ok.ensures) c.requires.at));
     }

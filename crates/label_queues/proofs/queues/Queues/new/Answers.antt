@@ -1,7 +1,7 @@
 use Rattle.std.proofs.Common.{◌≡◌, [], map, length, sym, ap, subst, ◌∙◌}
 use Rattle.std.specs.Prelude.{replicate}
 use Rattle.std.proofs.lemmas.List.{length-map}
-use Rattle.label_queues.specs.Keys.{AreKeys, AreFew, items_at}
+use Rattle.label_queues.specs.Keys.{AreKeys, AreWithinLimits, items_at}
 use Rattle.label_queues.proofs.KeyLaws.{no_keys, few_none, no_items, many}
 use Rattle.label_queues.proofs.queues.Queues.new.Goals as goal
 
@@ -12,7 +12,7 @@ invariant_of-result g c =
     let limits : c.in_ok-limits.limits.items ≡ map (λ l. l.queue) c.args.limits.now = rw c.in_ok-limits.was at c.queue_limits.ensures in (
       subst (AreKeys c.new-items.result.slots) (sym keys) (no_keys c.new-items.result.slots n),
       ap length keys ∙ many n ∙ sym (ap length limits ∙ length-map c.args.limits.now (λ l. l.queue)),
-      subst (λ k. AreFew k c.in_ok-limits.limits.items) (sym keys) (few_none n c.in_ok-limits.limits.items),
+      subst (λ k. AreWithinLimits k c.in_ok-limits.limits.items) (sym keys) (few_none n c.in_ok-limits.limits.items),
     )
 
 pub returns : goal.returns

@@ -1,6 +1,6 @@
 use Rattle.std.proofs.Common.{subst}
 use Rattle.wasm_semantics.specs.Units.{units}
-use Rattle.wasm_exec.specs.Machines.{thread_of, HasAsked, Stops}
+use Rattle.wasm_exec.specs.Machines.{thread_of, HasAsked, StopsAs}
 use Rattle.sandbox.proofs.tests.machines.turn.Goals as goal
 
 pub returns-in-Call : goal.returns-in-Call
@@ -9,5 +9,5 @@ returns-in-Call c =
     let course = units m c.args.pages (thread_of m c.args.machine.now) c.args.units in
     let x = c.run-ran.new.self in
     let has_asked : HasAsked m course c.run-ran.result.used c.in-Call.asked x =
-    subst (λ w. Stops m course c.run-ran.result.used w x) c.in-Call.is c.run-ran.ensures.stops in
+    subst (λ w. StopsAs m course c.run-ran.result.used w x) c.in-Call.is c.run-ran.ensures.stops in
     c.resume.ensures.ready m c.in-Call.asked.name has_asked.waits c.answer_to.ensures

@@ -3,7 +3,7 @@ use Rattle.label_lattice.specs.Order.{count}
 use Rattle.wasm_semantics.specs.Units.{units}
 use Rattle.sandbox.specs.declared.going.Going.{Going}
 use Rattle.sandbox.specs.Threads.{thread_of}
-use Rattle.sandbox.specs.Going.{Ends, Asks}
+use Rattle.sandbox.specs.Going.{EndsAs, Asks}
 use Rattle.trapeze_host.specs.Loans.{module_in}
 use Rattle.trapeze_host.specs.Turning.{IsFitReached}
 use Rattle.trapeze_host.proofs.Stints.{owed}
@@ -30,7 +30,7 @@ units-smaller g c =
     let t = thread_of m c.units.sandbox in
     let pages = c.limits-pages.result.pages in
     let asks : Asks m (units m pages t left) c.go-went.result.used c.in-Asks.suspended =
-    subst (λ (x : Going). Ends m (units m pages t left) c.go-went.result.used x) c.in-Asks.is c.go-went.ensures.ends in
+    subst (λ (x : Going). EndsAs m (units m pages t left) c.go-went.result.used x) c.in-Asks.is c.go-went.ensures.ends in
     omega (arith, asks_some m pages left c.go-went.result.used t c.in-Asks.suspended (c.units_are_counted.ensures.none m pages t) (c.units_are_counted.ensures.some m pages left t) asks, c.go-went.ensures.within)
 
 pub units-preserved : goal.units-preserved

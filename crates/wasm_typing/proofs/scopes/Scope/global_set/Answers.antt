@@ -4,7 +4,7 @@ use Rattle.wasm_ast.specs.declared.val_types.ValType.{ValType}
 use Rattle.wasm_ast.specs.declared.trees.Instr.TheOpen.{Instr-F}
 use Rattle.wasm_ast.specs.Typing.{Changes}
 use Rattle.wasm_typing.specs.Operands.{Stand, Image}
-use Rattle.wasm_typing.specs.Scopes.{Effect}
+use Rattle.wasm_typing.specs.Scopes.{TypeEffect}
 use Rattle.wasm_typing.proofs.Effects.{if_ok, global_set_effect}
 use Rattle.wasm_typing.proofs.scopes.Scope.global_set.Goals as goal
 
@@ -12,5 +12,5 @@ pub returns : goal.returns
 returns c =
     let s = c.args.self in
     let old = c.args.operands.now in
-    if_ok c.exchange.result (λ ok. Image (Changes (c.val_type.result ∷ []) []) (Stand old) (Stand c.exchange.new.self) ok) (λ ok. (ls : List (Option ValType)) → Effect s ls (Instr-F.GlobalSet c.args.index) old c.exchange.new.self ok)
+    if_ok c.exchange.result (λ ok. Image (Changes (c.val_type.result ∷ []) []) (Stand old) (Stand c.exchange.new.self) ok) (λ ok. (ls : List (Option ValType)) → TypeEffect s ls (Instr-F.GlobalSet c.args.index) old c.exchange.new.self ok)
     (λ ok h. global_set_effect s old c.exchange.new.self c.args.index c.in-Some.global.now ok c.in-Some.ensures (sym c.if-not-mutable.ensures) (subst (λ t. Image (Changes (t ∷ []) []) (Stand old) (Stand c.exchange.new.self) ok) c.val_type.ensures h)) c.exchange.ensures

@@ -5,7 +5,7 @@ use Rattle.wasm_ast.specs.declared.val_types.ValType.TheVariants.{I32}
 use Rattle.wasm_ast.specs.declared.trees.Instr.TheOpen.{Instr-F}
 use Rattle.wasm_ast.specs.Typing.{Changes}
 use Rattle.wasm_typing.specs.Operands.{Stand, Image}
-use Rattle.wasm_typing.specs.Scopes.{Effect}
+use Rattle.wasm_typing.specs.Scopes.{TypeEffect}
 use Rattle.wasm_typing.proofs.Effects.{if_ok, const_effect}
 use Rattle.wasm_typing.proofs.scopes.Scope.i32_const.Goals as goal
 
@@ -13,5 +13,5 @@ pub returns : goal.returns
 returns c =
     let s = c.args.self in
     let old = c.args.operands.now in
-    if_ok c.exchange.result (λ ok. Image (Changes [] (I32 ∷ [])) (Stand old) (Stand c.exchange.new.self) ok) (λ ok. (ls : List (Option ValType)) → Effect s ls (Instr-F.I32Const c.args.value) old c.exchange.new.self ok)
+    if_ok c.exchange.result (λ ok. Image (Changes [] (I32 ∷ [])) (Stand old) (Stand c.exchange.new.self) ok) (λ ok. (ls : List (Option ValType)) → TypeEffect s ls (Instr-F.I32Const c.args.value) old c.exchange.new.self ok)
     (λ ok h. λ ls. const_effect (c.args.value < 2 ^ 32) I32 old c.exchange.new.self ok (omega arith) h) c.exchange.ensures
