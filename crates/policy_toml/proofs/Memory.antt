@@ -12,7 +12,9 @@ use Rattle.policy_toml.specs.declared.error.PolicyError.TheVariants.{Extra, Latt
 use Rattle.policy_toml.specs.declared.place.Part.TheVariants as part
 use Rattle.policy_toml.specs.declared.place.Place.{Place}
 use Rattle.policy_toml.specs.Places.{row_place}
-use Rattle.policy_toml.specs.Rows.{Reads, unless, each_row, where_written, extra_key, extra_in_row}
+use Rattle.trapeze_io.specs.Answers.{AnswersBy}
+use Rattle.policy_toml.specs.Faults.{fault_of}
+use Rattle.policy_toml.specs.Rows.{unless, each_row, where_written, extra_key, extra_in_row}
 use Rattle.policy_toml.specs.Fields.{number_in}
 use Rattle.policy_toml.specs.Document.{root_keys}
 use Rattle.policy_toml.specs.Labels.{labels_of, flows_of, lattice_of}
@@ -22,7 +24,7 @@ use Rattle.policy_toml.specs.Channels.{channels_of}
 use Rattle.policy_toml.specs.Clients.{clients_of}
 use Rattle.policy_toml.specs.Gates.{gate_fields, gates_of}
 use Rattle.policy_toml.specs.Parts.{Parts}
-use Rattle.policy_toml.specs.PolicyOf.{policy_of, table_policy}
+use Rattle.policy_toml.specs.PolicyOf.{policy_of, table_lattice, table_policy}
 
 -- an error that says what is wrong with names and pairs
 abbrev IsLatticeFault : LatticeError → Type 0
@@ -145,9 +147,13 @@ lattice_faults : (names : List (List ℕ)) (pairs : List (List ℕ × List ℕ))
 unfolding lattice_of
 lattice_faults names pairs = search (faults_none, faults_then, faults_unless, lattice_found)
 
+table_lattice_faults : (root : Members) → OnlyFaults (table_lattice root)
+unfolding table_lattice
+table_lattice_faults root = search (faults_none, faults_then, root_faults, labels_faults, flows_faults, lattice_faults) depth 16
+
 table_faults : (root : Members) → OnlyFaults (table_policy root)
 unfolding table_policy
-table_faults root = search (faults_none, faults_then, root_faults, labels_faults, flows_faults, lattice_faults, limits_faults, functions_faults, channels_faults, clients_faults, gates_faults) depth 16
+table_faults root = search (faults_none, faults_then, table_lattice_faults, limits_faults, functions_faults, channels_faults, clients_faults, gates_faults) depth 16
 
 policy_faults : (bytes : List ℕ) → OnlyFaults (policy_of bytes)
 policy_faults bytes = search (faults_or, faults_then, faults_if, table_faults)
@@ -156,7 +162,7 @@ policy_faults bytes = search (faults_or, faults_then, faults_if, table_faults)
 pub no_memory_fault : (bytes : List ℕ) → policy_of bytes ≢ Err (Lattice lattice.NoMemory)
 no_memory_fault bytes is = subst (λ (r : Result Parts PolicyError). IfErr r IsFault) is (policy_faults bytes).fault
 
-pub not_of_memory : {T : Type 0} (shown : T → Parts) (bytes : List ℕ) (result : Result T PolicyError) → Reads shown (policy_of bytes) result
+pub not_of_memory : {T : Type 0} (shown : T → Parts) (bytes : List ℕ) (result : Result T PolicyError) → AnswersBy fault_of shown (policy_of bytes) result
     → IfErr result (λ e. e ≢ Lattice lattice.NoMemory)
 not_of_memory shown bytes (Ok x) read = tt
-not_of_memory shown bytes (Err e) read = λ is. let other : e ≢ NoMemory = λ none. cc in no_memory_fault bytes (read other ∙ ap Err is)
+not_of_memory shown bytes (Err e) read = λ is. no_memory_fault bytes (read (Lattice lattice.NoMemory) (ap fault_of is))

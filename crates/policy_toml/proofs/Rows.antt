@@ -56,6 +56,12 @@ SoFar-more read all x left found y so is = record {
       ∙ ap (λ n. after (found ++ y ∷ []) (each_row read n left)) (simp length-append (omega arith));
 }
 
+-- the next row has a fault
+pub SoFar-stops : {X Y : Type 0} (read : ℕ → X → Result Y PolicyError) (all : List X) (x : X) (left : List X) (found : List Y) (fault : PolicyError)
+    → SoFar read all (x ∷ left) found → read (length found + 1) x ≡ Err fault → each_row read 1 all ≡ Err fault
+SoFar-stops read all x left found fault so is =
+    so.so_far ∙ ap (λ r. after found (r >>= (λ y. each_row read (length found + 1 + 1) left >>= (λ ys. Ok (y ∷ ys))))) is
+
 -- no row is left
 pub SoFar-done : {X Y : Type 0} (read : ℕ → X → Result Y PolicyError) (all : List X) (found : List Y) → SoFar read all [] found → each_row read 1 all ≡ Ok found
 SoFar-done read all found so = so.so_far ∙ ap Ok (append-nil found)

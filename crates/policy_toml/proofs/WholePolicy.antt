@@ -10,15 +10,13 @@ use Rattle.label_limits.specs.declared.limits.Limits.{Limits}
 use Rattle.labelled_channel.specs.declared.channels.Channel.{Channel}
 use Rattle.gate_rules.specs.declared.gate.Gate.{Gate}
 use Rattle.trapeze_io.specs.Names.{Ascend}
-use Rattle.policy_toml.specs.Document.{root_keys}
-use Rattle.policy_toml.specs.Labels.{labels_of, flows_of, lattice_of}
 use Rattle.policy_toml.specs.Limits.{limits_of}
 use Rattle.policy_toml.specs.Functions.{functions_of, is_file_name, IsFunction}
 use Rattle.policy_toml.specs.Channels.{channels_of, IsChannel}
 use Rattle.policy_toml.specs.Clients.{clients_of, IsClient}
 use Rattle.policy_toml.specs.Gates.{gates_of, IsGate}
 use Rattle.policy_toml.specs.Parts.{Parts, IsPolicy}
-use Rattle.policy_toml.specs.PolicyOf.{table_policy, limits_by_label}
+use Rattle.policy_toml.specs.PolicyOf.{table_lattice, table_policy, limits_by_label}
 
 -- what holds of the functions and the clients that were read
 pub record FunctionsRead (rows : List (List ℕ × List ℕ)) (names : List (List ℕ)) (files : List (List ℕ)) : Type 0 where
@@ -62,12 +60,13 @@ is_policy order limits channels functions files clients clearances gates functio
     }
 
 -- each stage gave a value, so the table is a policy
-pub accepted : (root : Members) (names : List (List ℕ)) (flows : List (List ℕ × List ℕ)) (lattice : Order) (limits : List (ℕ × Limits)) (functions : List (List ℕ × List ℕ)) (channels : List (List ℕ × Channel)) (clients : List (List ℕ × ℕ)) (gates : List (List ℕ × Gate))
-    → root_keys root ≡ Ok tt → labels_of root ≡ Ok names → flows_of root ≡ Ok flows → lattice_of names flows ≡ Ok lattice → limits_of names root ≡ Ok limits → functions_of root ≡ Ok functions
-    → channels_of names (map (λ f. f.0) functions) root ≡ Ok channels → clients_of names root ≡ Ok clients → gates_of names (map (λ f. f.0) functions) root ≡ Ok gates
+pub accepted : (root : Members) (lattice : Order) (limits : List (ℕ × Limits)) (functions : List (List ℕ × List ℕ)) (channels : List (List ℕ × Channel)) (clients : List (List ℕ × ℕ)) (gates : List (List ℕ × Gate))
+    → table_lattice root ≡ Ok lattice → limits_of lattice.names root ≡ Ok limits → functions_of root ≡ Ok functions
+    → channels_of lattice.names (map (λ f. f.0) functions) root ≡ Ok channels → clients_of lattice.names root ≡ Ok clients
+    → gates_of lattice.names (map (λ f. f.0) functions) root ≡ Ok gates
     → table_policy root ≡ Ok (record {
       lattice = lattice;
-      limits = limits_by_label (length names) limits;
+      limits = limits_by_label (count lattice) limits;
       channels = channels;
       functions = map (λ f. f.0) functions;
       files = map (λ f. f.1) functions;
@@ -76,7 +75,7 @@ pub accepted : (root : Members) (names : List (List ℕ)) (flows : List (List �
       gates = gates;
     })
 unfolding table_policy
-accepted root names flows lattice limits functions channels clients gates a b c d e f g h i = rw (a, b, c, d, e, f, g, h, i) refl
+accepted root lattice limits functions channels clients gates a b c d e f = rw (a, b, c, d, e, f) refl
 
 abbrev with_parts : Order → List Limits → List (List ℕ × Channel) → List (List ℕ) → List (List ℕ) → List (List ℕ) → List ℕ → List (List ℕ × Gate) → Parts
 with_parts lattice limits channels functions files clients clearances gates =

@@ -45,8 +45,12 @@ gate_fields names functions row table = do
   function ← function_at functions (codes "function") (field_of part.Gates row 3) table
   lets ← filter_at (codes "filter") (field_of part.Gates row 4) table
   count ← number_at (codes "count") (0, largest_count) largest_count (field_of part.Gates row 5) table
-  Ok (record { source = record { number = source }; target = record { number = target };
-      function = function; filter = with_count lets count })
+  Ok (record {
+    source = record { number = source };
+    target = record { number = target };
+    function = function;
+    filter = with_count lets count;
+  })
 
 -- a gate has a name, and its row is a table
 abbrev pub gate_row : List (List ℕ) → List (List ℕ) → ℕ → List ℕ × Data → Result (List ℕ × Gate) PolicyError

@@ -26,7 +26,7 @@ pub record Parts : Type 0 where
 -- the parts as the code keeps them: file names as texts, clearances as labels
 abbrev pub parts_of :
     Order → List Limits → List (List ℕ × Channel) → List (List ℕ) → List (String Global) →
-        List (List ℕ) → List Label → List (List ℕ × Gate) → Parts
+    List (List ℕ) → List Label → List (List ℕ × Gate) → Parts
 parts_of lattice limits channels functions files clients clearances gates = record {
   lattice = lattice;
   limits = limits;

@@ -1,5 +1,5 @@
 -- The rows of a part, read one by one: what they say, or the first fault among them.
-use Rattle.std.specs.Prelude.{◌≡◌, ◌≢◌, ℕ, ◌+◌, Bool, not, List, [], ◌∷◌, Option, Some, None, ok_or, Result, Ok, Err, codes, nat_eq, nat_le, length, if◌then◌else◌}
+use Rattle.std.specs.Prelude.{ℕ, ◌+◌, Bool, not, List, [], ◌∷◌, Option, Some, None, ok_or, Result, Ok, Err, codes, nat_eq, nat_le, length, if◌then◌else◌}
 use Rattle.std.specs.List.{list_any, position_from}
 use Rattle.std.specs.Cmp.Lexicographic.{pointwise}
 use Rattle.trapeze_io.specs.Answers.{◌>>=◌}
@@ -8,7 +8,7 @@ use Rattle.policy_toml.specs.declared.place.Part.{Part}
 use Rattle.policy_toml.specs.declared.place.Part.TheVariants as part
 use Rattle.policy_toml.specs.declared.place.Place.{Place}
 use Rattle.policy_toml.specs.declared.error.PolicyError.{PolicyError}
-use Rattle.policy_toml.specs.declared.error.PolicyError.TheVariants.{Extra, WrongKind, NoMemory, BadName, OutOfRange}
+use Rattle.policy_toml.specs.declared.error.PolicyError.TheVariants.{Extra, WrongKind, BadName, OutOfRange}
 use Rattle.policy_toml.specs.Places.{row_place, whole}
 use Rattle.trapeze_io.specs.Names.{is_name}
 
@@ -72,8 +72,3 @@ at_most most part table = if nat_le (length (members_of table)) most then Ok tt 
 -- a row's key is a name
 abbrev pub name_of : Part → ℕ → List ℕ → Result (List ℕ) PolicyError
 name_of part row key = if is_name key then Ok key else Err (BadName (row_place part row))
-
--- the answer is what the definition reads, unless it is out of memory
-abbrev pub Reads : {T X : Type 0} → (T → X) → Result X PolicyError → Result T PolicyError → Type 0
-Reads shown read (Ok x) = read ≡ Ok (shown x)
-Reads shown read (Err fault) = fault ≢ NoMemory → read ≡ Err fault

@@ -4,7 +4,9 @@ ghost use Rattle.std.specs.Prelude.{◌≡◌, ◌≤◌, length, IfOk, All};
 ghost use Rattle.toml.specs.View.{view, table_view};
 ghost use Rattle.label_lattice.specs.Order.{count};
 ghost use Rattle.trapeze_io.specs.Names.{Ascend};
-ghost use Rattle.policy_toml.specs.Rows.{Reads, each_row, members_of};
+ghost use Rattle.trapeze_io.specs.Answers.{Answers, AnswersBy};
+ghost use Rattle.policy_toml.specs.Faults.{fault_of};
+ghost use Rattle.policy_toml.specs.Rows.{each_row, members_of};
 ghost use Rattle.policy_toml.specs.Channels.{channel_row, channels_of, shown_channel, IsChannel};
 
 use crate::error::PolicyError;
@@ -27,7 +29,7 @@ pub fn channels(
 ) -> Result<Channels, PolicyError>
     requires ascend { Ascend functions.now }
     requires few { length functions.now ≤ 256 }
-    ensures read { Reads (λ channels. channels) (channels_of lattice.now.names functions.now (table_view root.now)) result }
+    ensures read { Answers fault_of (channels_of lattice.now.names functions.now (table_view root.now)) result }
     ensures below { IfOk result (All (IsChannel (count lattice.now) (length functions.now))) }
 {
     let Some(value) = member(root, "channels") else {
@@ -47,7 +49,7 @@ fn channel_rows(
 ) -> Result<Channels, PolicyError>
     requires ascend { Ascend functions.now }
     requires few { length functions.now ≤ 256 }
-    ensures read { Reads (λ channels. channels) (each_row (channel_row lattice.now.names functions.now) 1
+    ensures read { Answers fault_of (each_row (channel_row lattice.now.names functions.now) 1
         (members_of (table_view table.now))) result }
     ensures below { IfOk result (All (IsChannel (count lattice.now) (length functions.now))) }
 {
@@ -70,7 +72,7 @@ fn channel_row(
 ) -> Result<(Name, Label, u32), PolicyError>
     requires ascend { Ascend functions.now }
     requires few { length functions.now ≤ 256 }
-    ensures read { Reads shown_channel (channel_row lattice.now.names functions.now row (key.now, view value.now)) result }
+    ensures read { AnswersBy fault_of shown_channel (channel_row lattice.now.names functions.now row (key.now, view value.now)) result }
     ensures name { IfOk result (λ channel. channel.0 ≡ key.now) }
     ensures below { IfOk result (λ channel. IsChannel (count lattice.now) (length functions.now) (shown_channel channel)) }
 {

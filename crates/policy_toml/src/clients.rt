@@ -4,7 +4,9 @@ ghost use Rattle.std.specs.Prelude.{◌≡◌, ◌≤◌, map, length, IfOk, All
 ghost use Rattle.toml.specs.View.{view, table_view};
 ghost use Rattle.label_lattice.specs.Order.{count};
 ghost use Rattle.trapeze_io.specs.Names.{Ascend};
-ghost use Rattle.policy_toml.specs.Rows.{Reads, each_row, members_of};
+ghost use Rattle.trapeze_io.specs.Answers.{Answers, AnswersBy};
+ghost use Rattle.policy_toml.specs.Faults.{fault_of};
+ghost use Rattle.policy_toml.specs.Rows.{each_row, members_of};
 ghost use Rattle.policy_toml.specs.Clients.{client_row, clients_of, IsClient};
 
 use crate::error::PolicyError;
@@ -34,7 +36,7 @@ impl Model for Client {
 /// The clients in byte order of their names, with their clearances.
 #[tactic(auto, unfolding(crate::specs::Clients::clients_of))]
 pub fn clients(alloc: Global, lattice: &Lattice, root: &Table) -> Result<Vec<Client>, PolicyError>
-    ensures read { Reads (λ rows. rows.items) (clients_of lattice.now.names (table_view root.now)) result }
+    ensures read { AnswersBy fault_of (λ rows. rows.items) (clients_of lattice.now.names (table_view root.now)) result }
     ensures ascend { IfOk result (λ rows. Ascend (map (λ row. row.0) rows.items)) }
     ensures clearances { IfOk result (λ rows. All (IsClient (count lattice.now)) rows.items) }
     ensures few { IfOk result (λ rows. length rows.items ≤ 65536) }
@@ -50,7 +52,7 @@ pub fn clients(alloc: Global, lattice: &Lattice, root: &Table) -> Result<Vec<Cli
 }
 
 fn client_rows(alloc: Global, lattice: &Lattice, table: &Table) -> Result<Vec<Client>, PolicyError>
-    ensures read { Reads (λ rows. rows.items) (each_row (client_row lattice.now.names) 1 (members_of (table_view table.now))) result }
+    ensures read { AnswersBy fault_of (λ rows. rows.items) (each_row (client_row lattice.now.names) 1 (members_of (table_view table.now))) result }
     ensures ascend { IfOk result (λ rows. Ascend (map (λ row. row.0) rows.items)) }
     ensures clearances { IfOk result (λ rows. All (IsClient (count lattice.now)) rows.items) }
     ensures count { IfOk result (λ rows. length rows.items ≡ length (members_of (table_view table.now))) }
@@ -66,7 +68,7 @@ fn client_rows(alloc: Global, lattice: &Lattice, table: &Table) -> Result<Vec<Cl
 }
 
 fn client_row(lattice: &Lattice, row: u64, key: &str, value: &Value) -> Result<Client, PolicyError>
-    ensures read { Reads (λ client. client) (client_row lattice.now.names row (key.now, view value.now)) result }
+    ensures read { Answers fault_of (client_row lattice.now.names row (key.now, view value.now)) result }
     ensures name { IfOk result (λ client. client.0 ≡ key.now) }
     ensures clearance { IfOk result (IsClient (count lattice.now)) }
 {

@@ -1,7 +1,8 @@
 //! The root table of a policy.
 
 ghost use Rattle.toml.specs.View.{table_view};
-ghost use Rattle.policy_toml.specs.Rows.{Reads};
+ghost use Rattle.trapeze_io.specs.Answers.{Answers, AnswersBy};
+ghost use Rattle.policy_toml.specs.Faults.{fault_of};
 ghost use Rattle.policy_toml.specs.Document.{document_of, root_keys};
 
 use crate::error::PolicyError;
@@ -12,7 +13,7 @@ use toml::Table;
 
 /// The table that the bytes write.
 pub fn document(alloc: Global, bytes: &[u8]) -> Result<Table, PolicyError>
-    ensures { Reads table_view (document_of bytes.now) result }
+    ensures { AnswersBy fault_of table_view (document_of bytes.now) result }
 {
     let Ok(text) = str::from_utf8(bytes) else {
         return Err(PolicyError::Toml);
@@ -27,7 +28,7 @@ pub fn document(alloc: Global, bytes: &[u8]) -> Result<Table, PolicyError>
 /// Tests that the root has no key but a policy's.
 #[tactic(auto, unfolding(crate::specs::Document::root_keys))]
 pub fn root_keys(root: &Table) -> Result<(), PolicyError>
-    ensures { Reads (λ done. done) (root_keys (table_view root.now)) result }
+    ensures { Answers fault_of (root_keys (table_view root.now)) result }
 {
     match extra_key(Part::Root, root) {
         Some(row) => Err(PolicyError::Extra(Place::row(Part::Root, row))),

@@ -3,7 +3,9 @@
 ghost use Rattle.std.specs.Prelude.{◌≡◌, ◌<◌, ◌≤◌, string_bytes, map, length, IfOk, All};
 ghost use Rattle.toml.specs.View.{view, table_view};
 ghost use Rattle.trapeze_io.specs.Names.{Ascend};
-ghost use Rattle.policy_toml.specs.Rows.{Reads, each_row, members_of};
+ghost use Rattle.trapeze_io.specs.Answers.{Answers, AnswersBy};
+ghost use Rattle.policy_toml.specs.Faults.{fault_of};
+ghost use Rattle.policy_toml.specs.Rows.{each_row, members_of};
 ghost use Rattle.policy_toml.specs.Functions.{function_row, functions_of, function_at, IsFunction};
 
 use crate::error::PolicyError;
@@ -33,7 +35,7 @@ impl Model for Function {
 /// The functions in byte order of their names, with their file names.
 #[tactic(auto, unfolding(crate::specs::Functions::functions_of))]
 pub fn functions(alloc: Global, root: &Table) -> Result<Vec<Function>, PolicyError>
-    ensures read { Reads (λ rows. rows.items) (functions_of (table_view root.now)) result }
+    ensures read { AnswersBy fault_of (λ rows. rows.items) (functions_of (table_view root.now)) result }
     ensures ascend { IfOk result (λ rows. Ascend (map (λ row. row.0) rows.items)) }
     ensures files { IfOk result (λ rows. All IsFunction rows.items) }
     ensures few { IfOk result (λ rows. length rows.items ≤ 256) }
@@ -49,7 +51,7 @@ pub fn functions(alloc: Global, root: &Table) -> Result<Vec<Function>, PolicyErr
 }
 
 fn function_rows(alloc: Global, table: &Table) -> Result<Vec<Function>, PolicyError>
-    ensures read { Reads (λ rows. rows.items) (each_row function_row 1 (members_of (table_view table.now))) result }
+    ensures read { AnswersBy fault_of (λ rows. rows.items) (each_row function_row 1 (members_of (table_view table.now))) result }
     ensures ascend { IfOk result (λ rows. Ascend (map (λ row. row.0) rows.items)) }
     ensures files { IfOk result (λ rows. All IsFunction rows.items) }
     ensures count { IfOk result (λ rows. length rows.items ≡ length (members_of (table_view table.now))) }
@@ -65,7 +67,7 @@ fn function_rows(alloc: Global, table: &Table) -> Result<Vec<Function>, PolicyEr
 }
 
 fn function_row(alloc: Global, row: u64, key: &str, value: &Value) -> Result<Function, PolicyError>
-    ensures read { Reads (λ function. function) (function_row row (key.now, view value.now)) result }
+    ensures read { Answers fault_of (function_row row (key.now, view value.now)) result }
     ensures name { IfOk result (λ function. function.0 ≡ key.now) }
     ensures file { IfOk result IsFunction }
 {
@@ -92,7 +94,7 @@ pub fn function_at(
 ) -> Result<u32, PolicyError>
     requires ascend { Ascend functions.now }
     requires few { length functions.now ≤ 256 }
-    ensures read { Reads (λ number. number) (function_at functions.now key.now place (table_view table.now)) result }
+    ensures read { Answers fault_of (function_at functions.now key.now place (table_view table.now)) result }
     ensures within { IfOk result (λ number. number < length functions.now) }
 {
     let name = text_at(table, key, place)?;

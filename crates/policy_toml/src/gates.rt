@@ -4,7 +4,9 @@ ghost use Rattle.std.specs.Prelude.{◌≡◌, ◌≤◌, [], codes, length, IfO
 ghost use Rattle.toml.specs.View.{view, table_view};
 ghost use Rattle.label_lattice.specs.Order.{count};
 ghost use Rattle.trapeze_io.specs.Names.{Ascend};
-ghost use Rattle.policy_toml.specs.Rows.{Reads, each_row, members_of};
+ghost use Rattle.trapeze_io.specs.Answers.{Answers};
+ghost use Rattle.policy_toml.specs.Faults.{fault_of};
+ghost use Rattle.policy_toml.specs.Rows.{each_row, members_of};
 ghost use Rattle.policy_toml.specs.Gates.{filter_at, filter_named, gate_fields, gate_row, gates_of, with_count, IsGate};
 
 use crate::error::PolicyError;
@@ -30,7 +32,7 @@ pub fn gates(
 ) -> Result<Gates, PolicyError>
     requires ascend { Ascend functions.now }
     requires few { length functions.now ≤ 256 }
-    ensures read { Reads (λ gates. gates) (gates_of lattice.now.names functions.now (table_view root.now)) result }
+    ensures read { Answers fault_of (gates_of lattice.now.names functions.now (table_view root.now)) result }
     ensures below { IfOk result (All (IsGate (count lattice.now) (length functions.now))) }
 {
     let Some(value) = member(root, "gates") else {
@@ -50,7 +52,7 @@ fn gate_rows(
 ) -> Result<Gates, PolicyError>
     requires ascend { Ascend functions.now }
     requires few { length functions.now ≤ 256 }
-    ensures read { Reads (λ gates. gates) (each_row (gate_row lattice.now.names functions.now) 1
+    ensures read { Answers fault_of (each_row (gate_row lattice.now.names functions.now) 1
         (members_of (table_view table.now))) result }
     ensures below { IfOk result (All (IsGate (count lattice.now) (length functions.now))) }
 {
@@ -73,7 +75,7 @@ fn gate_row(
 ) -> Result<(Name, Gate), PolicyError>
     requires ascend { Ascend functions.now }
     requires few { length functions.now ≤ 256 }
-    ensures read { Reads (λ gate. gate) (gate_row lattice.now.names functions.now row (key.now, view value.now)) result }
+    ensures read { Answers fault_of (gate_row lattice.now.names functions.now row (key.now, view value.now)) result }
     ensures name { IfOk result (λ gate. gate.0 ≡ key.now) }
     ensures below { IfOk result (IsGate (count lattice.now) (length functions.now)) }
 {
@@ -92,7 +94,7 @@ fn gate_fields(
 ) -> Result<Gate, PolicyError>
     requires ascend { Ascend functions.now }
     requires few { length functions.now ≤ 256 }
-    ensures read { Reads (λ gate. gate) (gate_fields lattice.now.names functions.now row (table_view table.now)) result }
+    ensures read { Answers fault_of (gate_fields lattice.now.names functions.now row (table_view table.now)) result }
     ensures below { IfOk result (λ gate. IsGate (count lattice.now) (length functions.now) ([], gate)) }
 {
     let source = label_at(lattice, table, "source", Place::field(Part::Gates, row, 1))?;
@@ -116,7 +118,7 @@ fn gate_fields(
 
 /// The filter that a gate's text names, with the largest count.
 fn filter_at(table: &Table, place: Place) -> Result<Filter, PolicyError>
-    ensures { Reads (λ filter. filter) (filter_at (codes "filter") place (table_view table.now)) result }
+    ensures { Answers fault_of (filter_at (codes "filter") place (table_view table.now)) result }
 {
     let text = text_at(table, "filter", place)?;
     match filter_named(text) {

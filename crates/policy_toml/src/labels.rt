@@ -2,7 +2,9 @@
 
 ghost use Rattle.std.specs.Prelude.{◌≡◌, IfOk, option_map};
 ghost use Rattle.toml.specs.View.{view, items_view, table_view};
-ghost use Rattle.policy_toml.specs.Rows.{Reads, each_row, items_of};
+ghost use Rattle.trapeze_io.specs.Answers.{Answers, AnswersBy};
+ghost use Rattle.policy_toml.specs.Faults.{fault_of};
+ghost use Rattle.policy_toml.specs.Rows.{each_row, items_of};
 ghost use Rattle.policy_toml.specs.Labels.{label_row, labels_of, flow_row, pair_of, flows_of, lattice_of};
 
 use crate::error::PolicyError;
@@ -16,7 +18,7 @@ use trapeze_io::Bytes;
 /// The labels in order.
 #[tactic(auto, unfolding(crate::specs::Labels::labels_of))]
 pub fn labels(alloc: Global, root: &Table) -> Result<Vec<Bytes>, PolicyError>
-    ensures { Reads (λ labels. labels.items) (labels_of (table_view root.now)) result }
+    ensures { AnswersBy fault_of (λ labels. labels.items) (labels_of (table_view root.now)) result }
 {
     let place = Place::whole(Part::Labels);
     let Some(value) = member(root, "labels") else {
@@ -29,7 +31,7 @@ pub fn labels(alloc: Global, root: &Table) -> Result<Vec<Bytes>, PolicyError>
 }
 
 fn label_rows(alloc: Global, values: &[Value]) -> Result<Vec<Bytes>, PolicyError>
-    ensures { Reads (λ labels. labels.items) (each_row label_row 1 (items_of (items_view values.now))) result }
+    ensures { AnswersBy fault_of (λ labels. labels.items) (each_row label_row 1 (items_of (items_view values.now))) result }
 {
     let mut labels = Vec::new(alloc);
     'rows: for value in values {
@@ -42,7 +44,7 @@ fn label_rows(alloc: Global, values: &[Value]) -> Result<Vec<Bytes>, PolicyError
 }
 
 fn label_row(alloc: Global, row: u64, value: &Value) -> Result<Bytes, PolicyError>
-    ensures { Reads (λ label. label) (label_row row (view value.now)) result }
+    ensures { Answers fault_of (label_row row (view value.now)) result }
 {
     let Some(text) = value.as_str() else {
         return Err(PolicyError::WrongKind(Place::row(Part::Labels, row)));
@@ -53,7 +55,7 @@ fn label_row(alloc: Global, row: u64, value: &Value) -> Result<Bytes, PolicyErro
 /// The pairs of labels of which the first flows to the second.
 #[tactic(auto, unfolding(crate::specs::Labels::flows_of))]
 pub fn flows(alloc: Global, root: &Table) -> Result<Vec<(Bytes, Bytes)>, PolicyError>
-    ensures { Reads (λ flows. flows.items) (flows_of (table_view root.now)) result }
+    ensures { AnswersBy fault_of (λ flows. flows.items) (flows_of (table_view root.now)) result }
 {
     let Some(value) = member(root, "flows") else {
         return Ok(Vec::new(alloc));
@@ -65,7 +67,7 @@ pub fn flows(alloc: Global, root: &Table) -> Result<Vec<(Bytes, Bytes)>, PolicyE
 }
 
 fn flow_rows(alloc: Global, values: &[Value]) -> Result<Vec<(Bytes, Bytes)>, PolicyError>
-    ensures { Reads (λ flows. flows.items) (each_row flow_row 1 (items_of (items_view values.now))) result }
+    ensures { AnswersBy fault_of (λ flows. flows.items) (each_row flow_row 1 (items_of (items_view values.now))) result }
 {
     let mut flows = Vec::new(alloc);
     'rows: for value in values {
@@ -78,7 +80,7 @@ fn flow_rows(alloc: Global, values: &[Value]) -> Result<Vec<(Bytes, Bytes)>, Pol
 }
 
 fn flow_row(alloc: Global, row: u64, value: &Value) -> Result<(Bytes, Bytes), PolicyError>
-    ensures { Reads (λ flow. flow) (flow_row row (view value.now)) result }
+    ensures { Answers fault_of (flow_row row (view value.now)) result }
 {
     let Some((from, to)) = two_texts(value) else {
         return Err(PolicyError::WrongKind(Place::row(Part::Flows, row)));
@@ -108,7 +110,7 @@ pub fn lattice(
     labels: &[Bytes],
     flows: &[(Bytes, Bytes)],
 ) -> Result<Lattice, PolicyError>
-    ensures read { Reads (λ lattice. lattice) (lattice_of labels.now flows.now) result }
+    ensures read { Answers fault_of (lattice_of labels.now flows.now) result }
     ensures names { IfOk result (λ lattice. lattice.names ≡ labels.now) }
 {
     match Lattice::build(alloc, labels, flows) {

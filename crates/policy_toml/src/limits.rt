@@ -6,7 +6,9 @@ ghost use Rattle.label_lattice.specs.Order.{count};
 ghost use Rattle.label_limits.specs.Ranges.{AreWithin};
 ghost use Rattle.policy_toml.specs.Places.{field_of};
 ghost use Rattle.policy_toml.specs.PolicyOf.{limits_written, limits_by_label};
-ghost use Rattle.policy_toml.specs.Rows.{Reads, each_row, members_of};
+ghost use Rattle.trapeze_io.specs.Answers.{Answers, AnswersBy};
+ghost use Rattle.policy_toml.specs.Faults.{fault_of};
+ghost use Rattle.policy_toml.specs.Rows.{each_row, members_of};
 ghost use Rattle.policy_toml.specs.Limits.{limits_of, limits_row, row_limits, IsRowOf};
 
 use crate::error::PolicyError;
@@ -38,7 +40,7 @@ impl Model for Row {
 /// The limits that are written, in byte order of the labels' names.
 #[tactic(auto, unfolding(crate::specs::Limits::limits_of))]
 pub fn limits(alloc: Global, lattice: &Lattice, root: &Table) -> Result<Vec<Row>, PolicyError>
-    ensures read { Reads (λ rows. rows.items) (limits_of lattice.now.names (table_view root.now)) result }
+    ensures read { AnswersBy fault_of (λ rows. rows.items) (limits_of lattice.now.names (table_view root.now)) result }
     ensures rows { IfOk result (λ rows. All (IsRowOf (count lattice.now)) rows.items) }
 {
     let Some(value) = member(root, "limits") else {
@@ -51,7 +53,7 @@ pub fn limits(alloc: Global, lattice: &Lattice, root: &Table) -> Result<Vec<Row>
 }
 
 fn limits_rows(alloc: Global, lattice: &Lattice, table: &Table) -> Result<Vec<Row>, PolicyError>
-    ensures read { Reads (λ rows. rows.items) (each_row (limits_row lattice.now.names) 1 (members_of (table_view table.now))) result }
+    ensures read { AnswersBy fault_of (λ rows. rows.items) (each_row (limits_row lattice.now.names) 1 (members_of (table_view table.now))) result }
     ensures rows { IfOk result (λ rows. All (IsRowOf (count lattice.now)) rows.items) }
 {
     let mut limits = Vec::new(alloc);
@@ -65,7 +67,7 @@ fn limits_rows(alloc: Global, lattice: &Lattice, table: &Table) -> Result<Vec<Ro
 }
 
 fn limits_row(lattice: &Lattice, row: u64, key: &str, value: &Value) -> Result<Row, PolicyError>
-    ensures read { Reads (λ row. row) (limits_row lattice.now.names row (key.now, view value.now)) result }
+    ensures read { Answers fault_of (limits_row lattice.now.names row (key.now, view value.now)) result }
     ensures row { IfOk result (IsRowOf (count lattice.now)) }
 {
     let Some(label) = lattice.find(key.as_bytes()) else {
@@ -78,7 +80,7 @@ fn limits_row(lattice: &Lattice, row: u64, key: &str, value: &Value) -> Result<R
 
 #[tactic(auto, unfolding(crate::specs::Limits::row_limits))]
 fn fields(row: u64, table: &Table) -> Result<Limits, PolicyError>
-    ensures read { Reads (λ limits. limits) (row_limits row (table_view table.now)) result }
+    ensures read { Answers fault_of (row_limits row (table_view table.now)) result }
     ensures in_range { IfOk result AreWithin }
 {
     let usual = Limits::usual();

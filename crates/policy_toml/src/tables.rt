@@ -5,7 +5,9 @@ ghost use Rattle.toml.specs.Data.{get_member};
 ghost use Rattle.toml.specs.View.{view, table_view};
 ghost use Rattle.label_lattice.specs.Order.{count};
 ghost use Rattle.label_limits.specs.Ranges.{is_within};
-ghost use Rattle.policy_toml.specs.Rows.{is_key_of, extra_key, row_table, Reads, at_most, name_of};
+ghost use Rattle.trapeze_io.specs.Answers.{Answers, AnswersBy};
+ghost use Rattle.policy_toml.specs.Faults.{fault_of};
+ghost use Rattle.policy_toml.specs.Rows.{is_key_of, extra_key, row_table, at_most, name_of};
 ghost use Rattle.policy_toml.specs.Fields.{text_at, label_at, number_at, number_within};
 
 use crate::error::PolicyError;
@@ -79,7 +81,7 @@ pub fn extra_key(part: Part, table: &Table) -> Option<u64>
 
 /// The table of a row, which has no key but the part's.
 pub fn row_table<'a>(part: Part, row: u64, value: &'a Value) -> Result<&'a Table, PolicyError>
-    ensures { Reads (λ table. table_view table.now) (row_table part row (view value.now)) result }
+    ensures { AnswersBy fault_of (λ table. table_view table.now) (row_table part row (view value.now)) result }
 {
     let place = Place::row(part, row);
     let Some(table) = value.as_table() else {
@@ -93,7 +95,7 @@ pub fn row_table<'a>(part: Part, row: u64, value: &'a Value) -> Result<&'a Table
 
 /// The text at a key that has to be there.
 pub fn text_at<'a>(table: &'a Table, key: &str, place: Place) -> Result<&'a str, PolicyError>
-    ensures { Reads (λ text. text.now) (text_at key.now place (table_view table.now)) result }
+    ensures { AnswersBy fault_of (λ text. text.now) (text_at key.now place (table_view table.now)) result }
 {
     let Some(value) = member(table, key) else {
         return Err(PolicyError::Missing(place));
@@ -113,7 +115,7 @@ pub fn number_at(
     place: Place,
 ) -> Result<u32, PolicyError>
     requires default { is_within range (pos default) ≡ true }
-    ensures read { Reads (λ number. number) (number_at key.now range default place (table_view table.now)) result }
+    ensures read { Answers fault_of (number_at key.now range default place (table_view table.now)) result }
     ensures within { IfOk result (λ number. is_within range (pos number) ≡ true) }
 {
     let Some(value) = member(table, key) else {
@@ -126,7 +128,7 @@ pub fn number_at(
 }
 
 fn number_within(range: (u32, u32), place: Place, number: i64) -> Result<u32, PolicyError>
-    ensures read { Reads (λ number. number) (number_within range place number) result }
+    ensures read { Answers fault_of (number_within range place number) result }
     ensures within { IfOk result (λ number. is_within range (pos number) ≡ true) }
 {
     match u32::try_from(number) {
@@ -137,7 +139,7 @@ fn number_within(range: (u32, u32), place: Place, number: i64) -> Result<u32, Po
 
 /// Tests that a part has at most so many rows.
 pub fn at_most(most: usize, part: Part, table: &Table) -> Result<(), PolicyError>
-    ensures { Reads (λ done. done) (at_most most part (table_view table.now)) result }
+    ensures { Answers fault_of (at_most most part (table_view table.now)) result }
 {
     if table.len() <= most {
         Ok(())
@@ -148,7 +150,7 @@ pub fn at_most(most: usize, part: Part, table: &Table) -> Result<(), PolicyError
 
 /// The name that a row's key is.
 pub fn name_of(part: Part, row: u64, key: &str) -> Result<Name, PolicyError>
-    ensures read { Reads (λ name. name) (name_of part row key.now) result }
+    ensures read { Answers fault_of (name_of part row key.now) result }
     ensures same { IfOk result (λ name. name ≡ key.now) }
 {
     match Name::read(key.as_bytes()) {
@@ -164,7 +166,7 @@ pub fn label_at(
     key: &str,
     place: Place,
 ) -> Result<Label, PolicyError>
-    ensures read { Reads (λ label. label.number) (label_at lattice.now.names key.now place (table_view table.now)) result }
+    ensures read { AnswersBy fault_of (λ label. label.number) (label_at lattice.now.names key.now place (table_view table.now)) result }
     ensures within { IfOk result (λ label. label.number < count lattice.now) }
 {
     let name = text_at(table, key, place)?;

@@ -64,9 +64,15 @@ impl Model for MemFiles {
 
     ghost Value = { FilesState };
 
-    ghost view = { λ s. record { held = reverse s.held.items; current = open_at s.held.items s.current s.at;
-        opens = s.opens; last_name = last_name_in s.held.items s.last_name;
-        faults = s.faults; mark = s.mark; plan = s.plan } };
+    ghost view = { λ s. record {
+      held = reverse s.held.items;
+      current = open_at s.held.items s.current s.at;
+      opens = s.opens;
+      last_name = last_name_in s.held.items s.last_name;
+      faults = s.faults;
+      mark = s.mark;
+      plan = s.plan;
+    } };
 
     ghost invariant = { λ s. IsOpenAt s.held.items s.current s.at × IsNamedIn s.held.items s.last_name };
 }

@@ -6,7 +6,7 @@ use Rattle.policy_toml.proofs.Rows.{document_of_text, document_of_none}
 use Rattle.policy_toml.proofs.document.document.Goals as goal
 
 pub returns-in_default : goal.returns-in_default
-returns-in_default c = λ other. document_of_none c.args.bytes.now c.in_default.ensures.cases.0
+returns-in_default c = λ fault is. document_of_none c.args.bytes.now c.in_default.ensures.cases.0 ∙ cc
 
 pub returns-in-Ok-table_from_str : goal.returns-in-Ok-table_from_str
 returns-in-Ok-table_from_str c = document_of_text c.args.bytes.now c.in-Ok.ensures.cases.1
