@@ -50,6 +50,10 @@ mapped f (Ok x) y h = (x, refl, cc)
 mapped f (Err fault) y h = absurd (cc)
 
 -- what was looked for was found
+-- what says nothing has every fault that saying nothing is
+pub silent : {A : Type 0} (said : Result A TextFault) → said ≡ Err SaysNothing → (fault : TextFault) → Some SaysNothing ≡ Some fault → said ≡ Err fault
+silent said none fault is = let same : SaysNothing ≡ fault = cc in none ∙ ap Err same
+
 sought : {A : Type 0} (o : Option A) (x : A) → ok_or o SaysNothing ≡ Ok x → o ≡ Some x
 sought (Some y) x h = cc
 sought None x h = absurd (cc)
