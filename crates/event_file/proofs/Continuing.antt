@@ -5,7 +5,7 @@ use borrow.Author.Tests.{ltb-true, lt-ltb}
 use Rattle.event_file.specs.Lines.{lines_of, is_too_long, longest_line}
 use Rattle.event_file.specs.Script.{Entries, entries_from, after, onto}
 use Rattle.event_file.specs.Reader.{Reader, said_by, entries_with, IsOneLine}
-use Rattle.event_file.specs.Calls.{SayNothing, Skips, Uses, Stops, Advances, Continues}
+use Rattle.event_file.specs.Calls.{SayNothing, Skips, Uses, Stops, Advances, Continues, Finishes}
 use Rattle.event_file.specs.declared.entry.Entry.{Entry}
 use Rattle.event_file.specs.declared.fault.LineFault.{LineFault}
 use Rattle.event_file.specs.declared.fault.LineError.{LineError}
@@ -101,15 +101,44 @@ continues old new next.NoLine more a =
 continues old new next.NoMemory more a =
     skips_with old a.between more a.skips ∙ sym (ap (λ (r : Reader). entries_with r more) a.goes.0)
 
+-- what an unfinished last line says, to a reader whose feeding has ended
+last_said : (old mid : Reader) (said : Result (Option Entry) LineFault) (len : ℕ) → mid ≡ record old { finished = true }
+    → len ≡ length mid.kept → said_by mid (take len mid.kept) ≡ said → said_by old old.kept ≡ said
+last_said old mid said len same e says =
+    let kept : take len mid.kept ≡ old.kept =
+    ap (λ (n : ℕ). take n mid.kept) e ∙ (take_all (length mid.kept) mid.kept (omega arith) ∙ ap (λ (r : Reader). r.kept) same) in
+    ap (λ (line : List ℕ). said_by old line) (sym kept) ∙ (sym (ap (λ (r : Reader). said_by r (take len mid.kept)) same) ∙ says)
+
+-- a bad unfinished last line is answered, and is all that is left
+abbrev pub bad_last : Reader → LineFault → LineError
+bad_last mid fault = record { line = mid.lines + 1; fault = fault }
+
+pub finishes_bad : (old mid new : Reader) (fault : LineFault) (len : ℕ) → mid ≡ record old { finished = true } → len ≡ length mid.kept
+    → said_by mid (take len mid.kept) ≡ Err fault → new ≡ record mid { bad = Some (bad_last mid fault) }
+    → Finishes old new (next.Bad (bad_last mid fault))
+finishes_bad old mid new fault len same e says is = (
+  last_said old mid (Err fault) len same e says,
+  ap (λ (r : Reader). r.lines + 1) same,
+  is ∙ ap (λ (r : Reader). record r { bad = Some (bad_last mid fault) }) same,
+)
+
+pub completes_bad : (old mid : Reader) (fault : LineFault) (len : ℕ) → IsOneLine old.kept → mid ≡ record old { finished = true }
+    → len ≡ length mid.kept → said_by mid (take len mid.kept) ≡ Err fault
+    → entries_with old [] ≡ record { entries = []; bad = Some (bad_last mid fault) }
+completes_bad old mid fault len one same e says =
+    let said : said_by old old.kept ≡ Err fault = last_said old mid (Err fault) len same e says in
+    let lines : lines_of (old.kept ++ []) ≡ old.kept ∷ [] = ap lines_of (append-nil old.kept) ∙ one in
+    let number : old.lines ≡ mid.lines = sym (ap (λ (r : Reader). r.lines) same) in
+    ap (λ (parts : List (List ℕ)). entries_from old.known (old.lines + 1) parts) lines
+    ∙ (ap (λ (answer : Result (Option Entry) LineFault). onto (old.lines + 1) answer (record { entries = []; bad = None })) said
+    ∙ ap (λ (n : ℕ). record { entries = []; bad = Some (record { line = n + 1; fault = fault }) }) number)
+
 -- an unfinished last line gives its entry, and the reader that used it up has no more
 pub completes_entry : (old mid new : Reader) (entry : Entry) (len : ℕ) → IsOneLine old.kept
     → mid ≡ record old { finished = true } → len ≡ length mid.kept → said_by mid (take len mid.kept) ≡ Ok (Some entry)
     → new.kept ≡ [] → entries_with old [] ≡ after (entry ∷ []) (entries_with new [])
 completes_entry old mid new entry len one same e says used =
-    let kept : take len mid.kept ≡ old.kept =
-    ap (λ (n : ℕ). take n mid.kept) e ∙ (take_all (length mid.kept) mid.kept (omega arith) ∙ ap (λ (r : Reader). r.kept) same) in
-    let said : said_by old old.kept ≡ Ok (Some entry) =
-    ap (λ (line : List ℕ). said_by old line) (sym kept) ∙ (sym (ap (λ (r : Reader). said_by r (take len mid.kept)) same) ∙ says) in
+    let said : said_by old old.kept ≡ Ok (Some entry) = last_said old mid (Ok (Some entry)) len same e says in
     let lines : lines_of (old.kept ++ []) ≡ old.kept ∷ [] = ap lines_of (append-nil old.kept) ∙ one in
     let none : lines_of (new.kept ++ []) ≡ [] ∷ [] = ap (λ (bytes : List ℕ). lines_of (bytes ++ [])) used in
     let left : entries_with new [] ≡ record { entries = []; bad = None } =

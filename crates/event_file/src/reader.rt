@@ -58,8 +58,14 @@ impl<'a> EventReader<'a> {
     ) -> EventReader<'a>
         requires clients { AreNumbered clients.now }
         requires functions { AreNumbered functions.now }
-        ensures { result ≡ record { known = record { labels = lattice.now.names; clients = clients.now; functions = functions.now };
-            kept = []; lines = 0; fed = 0; finished = false; bad = None } }
+        ensures { result ≡ record {
+          known = record { labels = lattice.now.names; clients = clients.now; functions = functions.now };
+          kept = [];
+          lines = 0;
+          fed = 0;
+          finished = false;
+          bad = None;
+        } }
     {
         EventReader {
             known: Known {

@@ -1,4 +1,4 @@
-use Rattle.std.proofs.Common.{◌+◌, length, ap, ◌∙◌, arith, length-drop}
+use Rattle.std.proofs.Common.{◌+◌, length, refl, ap, ◌∙◌, arith, length-drop}
 use Rattle.event_file.specs.Reader.{Reader}
 use Rattle.event_file.specs.Calls.{Advances}
 use Rattle.event_file.specs.declared.next.Next.TheVariants as next
@@ -56,7 +56,7 @@ faulty c =
     let says = rw c.in-Err-Fault.field-0-is at c.in-Err-Fault.ensures.said in
     answered c.args.self.now c.stop.new.self (next.Bad (at_first mid c.in-Err-Fault.fault)) c.stop.result c.stop.ensures.bad
     (advances_bad c.args.self.now mid c.stop.new.self _ _ c.in-Err-Fault.fault (skips_same _ _ mid same c.lines.invariant.skips)
-    (first_same c.lines.self mid c.in-Some-line_end.len same c.in-Some-line_end.ensures.end.1) says c.stop.ensures.same)
+    (first_same c.lines.self mid c.in-Some-line_end.len same c.in-Some-line_end.ensures.end.1) (says c.in-Err-Fault.fault refl) c.stop.ensures.same)
 
 pub returns-in-Err-Fault-clause-due : goal.returns-in-Err-Fault-clause-due
 returns-in-Err-Fault-clause-due c = λ none. is_due c.args.self.now c.stop.new.self c.stop.result (faulty c)
