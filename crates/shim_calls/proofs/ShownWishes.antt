@@ -1,5 +1,5 @@
 -- A wish of the rules, from the one that the code has.
-use Rattle.std.proofs.Common.{◌≡◌, ℕ, true, false, List, Some, None, Result, Ok, Err, refl, sym, ◌∙◌, subst}
+use Rattle.std.proofs.Common.{◌≡◌, ℕ, true, false, List, Some, None, Result, Ok, Err, refl, sym, ap, ◌∙◌, subst}
 use Rattle.std.specs.Prelude.{if◌then◌else◌}
 use Rattle.gate_rules.specs.Gates.{filtered}
 use Rattle.gate_rules.specs.declared.gate.Gate.{Gate}
@@ -45,3 +45,8 @@ means P c w v x is e = subst (λ w. Means P c w x) (sym e ∙ is) (means_shown P
 pub was_read : (P : Rules) (c : ℕ) (read : Result wishes.Wish Cause) (w : Wish) → wished P c read ≡ Ok w → (x : wishes.Wish) × (read ≡ Ok x) × (w ≡ shown P c x)
 was_read P c (Ok x) w e = (x, refl, cc)
 was_read P c (Err cause) w e = absurd (let k : Err cause ≡ Ok w = e in cc)
+
+-- what was refused for a cause, the rules refuse for that cause
+pub was_refused : (P : Rules) (c : ℕ) (read : Result wishes.Wish Cause) (cause : Cause) → wished P c read ≡ Err cause → read ≡ Err cause
+was_refused P c (Ok x) cause e = absurd (let k : Ok (shown P c x) ≡ Err cause = e in cc)
+was_refused P c (Err other) cause e = let same : other ≡ cause = cc in ap Err same

@@ -1,6 +1,7 @@
-use Rattle.std.proofs.Common.{length, ap, sym, ◌∙◌, subst}
+use Rattle.std.proofs.Common.{◌≡◌, Err, length, ap, sym, ◌∙◌, subst}
 use Rattle.label_lattice.specs.Order.{Order, count}
 use Rattle.labelled_channel.specs.Delivering.{channel_of, delivered, AreUnderNames}
+use Rattle.trapeze_lines.specs.declared.outcome.Cause.TheVariants.{Unknown}
 use Rattle.host_rules.specs.Policies.{rules_of}
 use Rattle.shim_calls.specs.Performing.{IsFitMessage}
 use Rattle.shim_calls.proofs.NamesWithinCounts.{unnamed, channel_is_fit}
@@ -8,8 +9,10 @@ use Rattle.shim_calls.proofs.wishes.sent.Goals as goal
 use Rattle.shim_calls.proofs.wishes.sent.Goals.{in-Start, in-Vanishes}
 
 pub returns-in_default-clause-wish : goal.returns-in_default-clause-wish
-returns-in_default-clause-wish c =
+returns-in_default-clause-wish c = λ fault is.
+    let same : Unknown ≡ fault = cc in
     unnamed (rules_of c.args.policy.now) c.args.at.number c.args.name.now c.args.bytes (subst AreUnderNames c.channels.ensures.channels c.deliver-delivery.ensures.named) c.in_default.ensures
+    ∙ ap Err same
 
 pub returns-clause-fit : goal.returns-clause-fit
 returns-clause-fit c =
