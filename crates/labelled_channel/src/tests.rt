@@ -28,35 +28,44 @@ fn four_labels(alloc: Global) -> Result<Lattice, Fail> {
 }
 
 #[test]
-fn messages_start_where_the_label_flows(rt: HostRuntime) -> Result<(), Fail> {
+fn a_message_starts_at_a_label_above(rt: HostRuntime) -> Result<(), Fail> {
+    let lattice = four_labels(rt.alloc())?;
+    assert_eq!(rt; lattice.count(), 4);
+    let (low, top) = (Label::numbered(0), Label::numbered(3));
+    let start = Delivery::Start(top, 7);
+    let mut channels = Channels::new(rt.alloc());
+    channels.add(Name::read(b"up").expect(&rt, "a name"), top, 7)?;
+    assert_eq!(rt; channels.deliver(&lattice, low, b"up"), start);
+    assert_eq!(rt; channels.deliver(&lattice, top, b"up"), start);
+    Ok(())
+}
+
+#[test]
+fn a_message_to_a_label_below_vanishes(rt: HostRuntime) -> Result<(), Fail> {
     let lattice = four_labels(rt.alloc())?;
     assert_eq!(rt; lattice.count(), 4);
     let (low, alice) = (Label::numbered(0), Label::numbered(1));
-    let (bob, top) = (Label::numbered(2), Label::numbered(3));
+    let start = Delivery::Start(low, 8);
     let mut channels = Channels::new(rt.alloc());
-    channels.add(Name::read(b"up").expect(&rt, "a name"), top, 7)?;
     channels.add(Name::read(b"down").expect(&rt, "a name"), low, 8)?;
-    channels.add(Name::read(b"beside").expect(&rt, "a name"), alice, u32::MAX)?;
-    assert_eq!(rt;
-        channels.deliver(&lattice, low, b"up"),
-        Delivery::Start(top, 7)
-    );
-    assert_eq!(rt;
-        channels.deliver(&lattice, top, b"up"),
-        Delivery::Start(top, 7)
-    );
-    assert_eq!(rt;
-        channels.deliver(&lattice, low, b"down"),
-        Delivery::Start(low, 8)
-    );
+    assert_eq!(rt; channels.deliver(&lattice, low, b"down"), start);
     assert_eq!(rt;
         channels.deliver(&lattice, alice, b"down"),
         Delivery::Vanishes
     );
-    assert_eq!(rt;
-        channels.deliver(&lattice, low, b"beside"),
-        Delivery::Start(alice, u32::MAX)
-    );
+    Ok(())
+}
+
+#[test]
+fn a_message_to_a_label_beside_vanishes(rt: HostRuntime) -> Result<(), Fail> {
+    let lattice = four_labels(rt.alloc())?;
+    assert_eq!(rt; lattice.count(), 4);
+    let (alice, bob) = (Label::numbered(1), Label::numbered(2));
+    let start = Delivery::Start(alice, u32::MAX);
+    let mut channels = Channels::new(rt.alloc());
+    channels.add(Name::read(b"mine").expect(&rt, "a name"), bob, 1)?;
+    channels.add(Name::read(b"beside").expect(&rt, "a name"), alice, u32::MAX)?;
+    assert_eq!(rt; channels.deliver(&lattice, alice, b"beside"), start);
     assert_eq!(rt;
         channels.deliver(&lattice, bob, b"beside"),
         Delivery::Vanishes
