@@ -3,12 +3,10 @@ use Rattle.std.proofs.Common.{◌≡◌, ℕ, List, [], ◌++◌, append_assoc, 
 use Rattle.std.specs.declared.option.Option.{Option}
 use Rattle.std.specs.Io.KnownBytes.{append_known}
 use Rattle.trapeze_io.specs.Causes.{Rose}
-use Rattle.trapeze_io.specs.Sinks.{AppendsPart}
 use Rattle.trapeze_cli.specs.declared.status.Status.TheVariants as status
 use Rattle.trapeze_cli.specs.Command.{check_text}
-use Rattle.trapeze_cli.specs.Appends.{AppendsLess}
+use Rattle.trapeze_io.specs.Appends.{AppendsLess}
 use Rattle.trapeze_cli.specs.Ends.{SaysText}
-use Rattle.trapeze_cli.proofs.Prefixes.{less_of}
 
 -- the pieces of the line
 abbrev pub pieces_text : List ℕ → List ℕ → List ℕ → List ℕ → List ℕ
@@ -27,6 +25,6 @@ module _ (labels functions channels clients : ℕ) (a b c d : List ℕ) (old new
       → SaysText (check_text labels functions channels clients) status.Done old new before now
   accepted_all p q r s all = inl (refl, all ∙ ap (append_known old) (same_text p q r s))
 
-  pub accepted_less : a ≡ decimal labels → b ≡ decimal functions → c ≡ decimal channels → d ≡ decimal clients → AppendsPart old new (pieces_text a b c d) → Rose before now
+  pub accepted_less : a ≡ decimal labels → b ≡ decimal functions → c ≡ decimal channels → d ≡ decimal clients → AppendsLess [] (pieces_text a b c d) old new → Rose before now
       → SaysText (check_text labels functions channels clients) status.WriteFault old new before now
-  accepted_less p q r s part rose = inr (refl, subst (λ t. AppendsLess [] t old new) (same_text p q r s) (less_of (pieces_text a b c d) old new part), rose)
+  accepted_less p q r s part rose = inr (refl, subst (λ t. AppendsLess [] t old new) (same_text p q r s) part, rose)

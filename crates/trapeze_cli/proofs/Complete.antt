@@ -7,16 +7,17 @@ use Rattle.policy_toml.specs.Parts.{Parts}
 use Rattle.trapeze_cli.specs.declared.status.Status.{Status}
 use Rattle.trapeze_cli.specs.declared.status.Status.TheVariants as status
 use Rattle.trapeze_cli.specs.declared.status.Input.TheVariants as inputs
-use Rattle.trapeze_cli.specs.Appends.{AppendsAll}
+use Rattle.trapeze_io.specs.Appends.{AppendsAll}
 use Rattle.trapeze_cli.specs.Command.{policy_in, Task, Plays, Says, Answer, answer_of, answer_of_file, status_at, events_limit, IsTask}
 use Rattle.trapeze_cli.specs.Forms.{Form, Source, policy_name, Command, OnFiles, on_files}
 use Rattle.trapeze_cli.specs.Opens.{IsLast}
 use Rattle.trapeze_cli.specs.Played.{FileEnd, AtEnd, AtBad, PastLimit, played_of}
 use Rattle.trapeze_cli.specs.Promises.{IsGiven}
 use Rattle.trapeze_cli.specs.Runs.{Setting}
-use Rattle.trapeze_cli.specs.Statuses.{Says as SaysLine, Named, no_names, named_by, named_in, error_text, WithNames}
+use Rattle.trapeze_io.specs.Appends.{Says as SaysLine}
+use Rattle.trapeze_cli.specs.Statuses.{Named, no_names, named_by, named_in, error_text, WithNames}
 use Rattle.trapeze_cli.specs.Whys.{Finished, Refused, why, IsSaid, IsAnswered, Writes, OfTexts, IfReadFailed}
-use Rattle.trapeze_cli.proofs.Prefixes.{all_none}
+use Rattle.trapeze_io.proofs.Appended.{all_none}
 use Rattle.trapeze_cli.proofs.Refusals.{IfSome-map, IfSome-all}
 use Rattle.trapeze_cli.proofs.Tasks.{one_task}
 

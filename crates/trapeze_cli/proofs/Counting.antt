@@ -7,7 +7,6 @@ use Rattle.std.specs.Str.{bytes_eq}
 use Rattle.std.proofs.lemmas.List.{take_more}
 use Rattle.std.proofs.lemmas.List.Elements.{filter-append}
 use Rattle.trapeze_io.specs.Causes.{Rose}
-use Rattle.trapeze_io.specs.Sinks.{AppendsPart}
 use Rattle.trapeze_lines.specs.declared.line.Line.{Line}
 use Rattle.trapeze_lines.specs.declared.line.Kind.{Kind}
 use Rattle.trapeze_lines.specs.declared.line.Kind.TheVariants.{Reply, Turn, Idle, Dropped, Full, Facet, Write, Read, Send, Answer, Start}
@@ -16,11 +15,10 @@ use Rattle.trapeze_lines.specs.Texts.{kind_word}
 use Rattle.trapeze_cli.specs.declared.counts.Counts.{Counts}
 use Rattle.trapeze_cli.specs.declared.status.Status.{Status}
 use Rattle.trapeze_cli.specs.declared.status.Status.TheVariants as status
-use Rattle.trapeze_cli.specs.Appends.{AppendsLess}
+use Rattle.trapeze_io.specs.Appends.{AppendsLess}
 use Rattle.trapeze_cli.specs.Ends.{SaysText}
 use Rattle.trapeze_cli.specs.Exercise.{count_of, exercise_lines, exercise_text}
 use Rattle.trapeze_cli.specs.Counts.{counts_of, counts_text, counted_with, AtMost}
-use Rattle.trapeze_cli.proofs.Prefixes.{less_of}
 
 same_counts : {a b : Counts} → a.replies ≡ b.replies → a.turns ≡ b.turns → a.idle ≡ b.idle → a.dropped ≡ b.dropped → a.full ≡ b.full → a.facets ≡ b.facets → a ≡ b
 same_counts p q r s t u = λ i. record { replies = p i; turns = q i; idle = r i; dropped = s i; full = t i; facets = u i }
@@ -180,8 +178,8 @@ module _ (n : Counts) (a b c d e f : List ℕ) where
     pub counts_all : new ≡ append_known old (pieces_text a b c d e f) → SaysText (counts_text n) status.Done old new before now
     counts_all all = inl (refl, all ∙ ap (append_known old) (same_text are))
 
-    pub counts_less : AppendsPart old new (pieces_text a b c d e f) → Rose before now → SaysText (counts_text n) status.WriteFault old new before now
-    counts_less part rose = inr (refl, subst (λ t. AppendsLess [] t old new) (same_text are) (less_of (pieces_text a b c d e f) old new part), rose)
+    pub counts_less : AppendsLess [] (pieces_text a b c d e f) old new → Rose before now → SaysText (counts_text n) status.WriteFault old new before now
+    counts_less part rose = inr (refl, subst (λ t. AppendsLess [] t old new) (same_text are) part, rose)
 
 -- the text of the counts of the lines of the exercise
 exercise_text_is : (number : ℕ) → counts_text (counts_of (exercise_lines number)) ≡ exercise_text number

@@ -14,7 +14,7 @@ use Rattle.trapeze_cli.specs.Ends.{IsFileOf}
 use Rattle.trapeze_cli.specs.Steps.{FaultsRose}
 use Rattle.trapeze_cli.specs.Whys.{why, IfReadFailed}
 use Rattle.trapeze_cli.proofs.Refusals.{IfSome-map, IfSome-all}
-use Rattle.trapeze_cli.proofs.Prefixes.{all_none, prefix_none}
+use Rattle.trapeze_io.proofs.Appended.{all_none, prefix_none}
 use Rattle.trapeze_cli.proofs.Showing.{said_nothing}
 
 -- an opened file

@@ -17,7 +17,8 @@ use Rattle.trapeze_cli.specs.Forms.{Form, Command, Exercise, OnFiles, on_files}
 use Rattle.trapeze_cli.specs.Opens.{Opened}
 use Rattle.trapeze_cli.specs.Promises.{ReadsEvents, IsRefusedCommand, EndsExercise, TellsMemory}
 use Rattle.trapeze_cli.specs.Said.{said, said_command}
-use Rattle.trapeze_cli.specs.Statuses.{Says as SaysLine, no_names, error_text, WithNames}
+use Rattle.trapeze_io.specs.Appends.{Says as SaysLine}
+use Rattle.trapeze_cli.specs.Statuses.{no_names, error_text, WithNames}
 use Rattle.trapeze_cli.specs.Steps.{CallEnds}
 use Rattle.trapeze_cli.specs.Whys.{why, IfReadFailed}
 use Rattle.trapeze_cli.proofs.Refusals.{IfSome-all}

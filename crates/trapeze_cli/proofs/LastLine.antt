@@ -11,10 +11,11 @@ use Rattle.host_rules.specs.Play.{items_of}
 use Rattle.trapeze_cli.specs.declared.halt.Halt.{Halt}
 use Rattle.trapeze_cli.specs.Played.{AtEnd, end_at, entry_events, events_of}
 use Rattle.trapeze_cli.specs.Runs.{Setting}
-use Rattle.trapeze_cli.specs.Appends.{AppendsAll}
+use Rattle.trapeze_io.specs.Appends.{AppendsAll}
 use Rattle.trapeze_cli.specs.Playing.{AppendsBy, said_of, text_from, lines_from}
 use Rattle.trapeze_cli.proofs.Showing.{said_nothing}
-use Rattle.trapeze_cli.proofs.Prefixes.{all_none, by_after, by_longer, by_halt}
+use Rattle.trapeze_io.proofs.Appended.{all_none}
+use Rattle.trapeze_cli.proofs.Prefixes.{by_after, by_longer, by_halt}
 use Rattle.trapeze_cli.proofs.Playing.{state_after}
 use Rattle.trapeze_cli.proofs.PassedLines.{end_text}
 

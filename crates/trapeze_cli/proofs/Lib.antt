@@ -1,5 +1,4 @@
 pub mod Numerals
-pub mod Pieces
 pub mod Refusals
 pub mod StepsInTurn
 pub mod Policies

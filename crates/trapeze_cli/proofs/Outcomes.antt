@@ -8,7 +8,7 @@ use Rattle.host_rules.specs.Rules.{IsOrdered}
 use Rattle.trapeze_cli.specs.declared.status.Status.{Status}
 use Rattle.trapeze_cli.specs.declared.status.Status.TheVariants as status
 use Rattle.trapeze_cli.specs.declared.status.Input.TheVariants as inputs
-use Rattle.trapeze_cli.specs.Appends.{AppendsAll, AppendsPrefix, AppendsLess}
+use Rattle.trapeze_io.specs.Appends.{AppendsAll, AppendsPrefix, AppendsLess}
 use Rattle.trapeze_cli.specs.Command.{Task, Plays, Says, Texts, answer_of_file, texts_by, status_at, events_limit}
 use Rattle.trapeze_cli.specs.Ends.{IsFileOf, SaysText, SaysOrRefuses}
 use Rattle.trapeze_cli.specs.Played.{played_of}
@@ -18,7 +18,7 @@ use Rattle.trapeze_cli.specs.Runs.{Setting, text_of}
 use Rattle.trapeze_cli.specs.Steps.{HasReason, CallEnds}
 use Rattle.trapeze_cli.specs.Whys.{Why, Finished, Refused, ReadFailed, why, given_of, IsAnswered, Writes}
 use Rattle.trapeze_cli.proofs.Refusals.{IfSome-map, IfSome-all}
-use Rattle.trapeze_cli.proofs.Prefixes.{prefix_none}
+use Rattle.trapeze_io.proofs.Appended.{prefix_none}
 use Rattle.trapeze_cli.proofs.Privacy.{private_by}
 
 module _ (tasks : Held → Result Task Status → Type 0) where

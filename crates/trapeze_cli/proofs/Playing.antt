@@ -14,7 +14,8 @@ use Rattle.trapeze_cli.specs.declared.halt.Halt.TheVariants.{NoMemory}
 use Rattle.trapeze_cli.specs.Runs.{Setting}
 use Rattle.trapeze_cli.specs.Playing.{AppendsBy, PlaysOn, said_of, text_from}
 use Rattle.trapeze_cli.proofs.Showing.{said-append, said_nothing}
-use Rattle.trapeze_cli.proofs.Prefixes.{all_none, prefix_none, by_after, by_longer, by_halt}
+use Rattle.trapeze_io.proofs.Appended.{all_none, prefix_none}
+use Rattle.trapeze_cli.proofs.Prefixes.{by_after, by_longer, by_halt}
 
 -- the state that events leave
 abbrev pub state_after : Setting → State Thread → List Event → State Thread

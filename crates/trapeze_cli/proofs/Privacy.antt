@@ -12,7 +12,7 @@ use Rattle.host_rules.proofs.Runs.{noninterfering}
 use Rattle.host_rules.proofs.NoGates.{noninterfering_alone}
 use Rattle.trapeze_cli.specs.declared.status.Status.{Status}
 use Rattle.trapeze_cli.specs.Command.{status_at}
-use Rattle.trapeze_cli.specs.Appends.{AppendsAll}
+use Rattle.trapeze_io.specs.Appends.{AppendsAll}
 use Rattle.trapeze_cli.specs.Played.{FileEnd, AtEnd, AtBad, PastLimit, Played, events_of}
 use Rattle.trapeze_cli.specs.Runs.{Setting, lines_to, lines_played, text_of}
 use Rattle.trapeze_cli.specs.Promises.{IsPrivate, shown_of}

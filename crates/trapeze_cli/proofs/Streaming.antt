@@ -24,12 +24,13 @@ use Rattle.trapeze_cli.specs.declared.status.Input.TheVariants as input
 use Rattle.trapeze_cli.specs.Played.{FileEnd, AtEnd, AtBad, PastLimit, Played, played_of, up_to, end_at, entry_events, events_of}
 use Rattle.trapeze_cli.specs.Runs.{Setting, lines_to, text_of, text_before, text_heard}
 use Rattle.trapeze_cli.specs.Command.{events_limit, piece, status_at}
-use Rattle.trapeze_cli.specs.Appends.{AppendsAll, AppendsPrefix, AppendsLess}
+use Rattle.trapeze_io.specs.Appends.{AppendsAll, AppendsPrefix, AppendsLess}
 use Rattle.trapeze_cli.specs.Promises.{StopsAt}
 use Rattle.trapeze_cli.specs.Whys.{why}
 use Rattle.trapeze_cli.specs.Playing.{AppendsBy, said_of, lines_from, IsDry, Drains, HasFollowed, file_in, played_in_file, texts_of, WritesOf, PlaysFile, status_of}
 use Rattle.trapeze_cli.proofs.Showing.{said-append}
-use Rattle.trapeze_cli.proofs.Prefixes.{by_after, prefix_after, prefix_wider, less_after, less_wider}
+use Rattle.trapeze_io.proofs.Appended.{prefix_after, prefix_wider, less_after, less_wider}
+use Rattle.trapeze_cli.proofs.Prefixes.{by_after}
 use Rattle.trapeze_cli.proofs.Playing.{state_after, state_both, trace_both}
 use Rattle.trapeze_cli.proofs.HeardPrefixes.{Begins, heard_begins, heard_good}
 use Rattle.trapeze_cli.proofs.FollowedFile.{follows_passed, heard_dry, played_begins, played_bad, played_whole, played_past}

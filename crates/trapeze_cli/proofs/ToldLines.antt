@@ -4,7 +4,6 @@ use Rattle.std.specs.declared.option.Option.{Option}
 use Rattle.std.specs.Prelude.{All, filter}
 use Rattle.std.specs.Io.KnownBytes.{append_known}
 use Rattle.std.proofs.lemmas.List.Elements.{All-nil}
-use Rattle.trapeze_io.specs.Sinks.{AppendsPart}
 use Rattle.wasm_ast.specs.declared.modules.Module.{Module}
 use Rattle.wasm_semantics.specs.Threads.{Thread}
 use Rattle.label_lattice.specs.Order.{count}
@@ -23,10 +22,9 @@ use Rattle.trapeze_cli.specs.declared.halt.Halt.{Halt}
 use Rattle.trapeze_cli.specs.declared.shown.Shown.{Shown}
 use Rattle.trapeze_cli.specs.Runs.{setting_of}
 use Rattle.trapeze_cli.specs.Shows.{shows}
-use Rattle.trapeze_cli.specs.Appends.{AppendsAll, AppendsLess}
+use Rattle.trapeze_io.specs.Appends.{AppendsAll, AppendsLess}
 use Rattle.trapeze_cli.specs.Playing.{AppendsBy, PlaysOn, said_of}
 use Rattle.trapeze_cli.proofs.Showing.{shown_filter}
-use Rattle.trapeze_cli.proofs.Prefixes.{less_of}
 use Rattle.trapeze_cli.proofs.Playing.{plays_one}
 
 -- the text of the lines that pass the test is that of those that are shown
@@ -42,10 +40,10 @@ pub told_all : (policy : Parts) (shown : Shown) (lines : List Line) (cleared sai
 told_all policy shown lines cleared said old new none is wrote = wrote ∙ ap (append_known old) (told_text policy shown lines cleared said none is)
 
 pub told_less : (policy : Parts) (shown : Shown) (lines : List Line) (cleared said : List ℕ) (old new : Option (List ℕ)) → cleared ≡ []
-    → said ≡ cleared ++ text policy.lattice.names (filter (shows (flows policy.lattice) shown) lines) → AppendsPart old new said
+    → said ≡ cleared ++ text policy.lattice.names (filter (shows (flows policy.lattice) shown) lines) → AppendsLess [] said old new
     → AppendsLess [] (said_of (setting_of policy [] shown) lines) old new
 told_less policy shown lines cleared said old new none is part =
-    subst (λ t. AppendsLess [] t old new) (told_text policy shown lines cleared said none is) (less_of said old new part)
+    subst (λ t. AppendsLess [] t old new) (told_text policy shown lines cleared said none is) part
 
 -- what an event of a host gave
 pub event_played : {A : Type 0} (policy lent : Parts) (modules : List Module) (shown : Shown) (before now : State Thread → Type 0) (event : Event) (empty lines : List Line)

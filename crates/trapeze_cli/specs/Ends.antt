@@ -5,7 +5,7 @@ use Rattle.trapeze_io.specs.Seen.{Held, OpenFile}
 use Rattle.trapeze_cli.specs.declared.status.Status.{Status}
 use Rattle.trapeze_cli.specs.declared.status.Status.TheVariants.{Done, ReadFault, WriteFault, NoMemory}
 use Rattle.trapeze_cli.specs.declared.status.Input.TheVariants.{Events as events_input}
-use Rattle.trapeze_cli.specs.Appends.{AppendsAll, AppendsLess}
+use Rattle.trapeze_io.specs.Appends.{AppendsAll, AppendsLess}
 use Rattle.trapeze_cli.specs.Playing.{file_in}
 
 -- the file that is held under a name is the open one, or it could not be read

@@ -9,7 +9,6 @@ pub mod Counts
 pub mod Counted
 pub mod Command
 pub mod Judged
-pub mod Appends
 pub mod Whys
 pub mod Opens
 pub mod Promises

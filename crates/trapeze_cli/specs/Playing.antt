@@ -25,7 +25,7 @@ use Rattle.trapeze_cli.specs.declared.status.Input.TheVariants.{Policy as policy
 use Rattle.trapeze_cli.specs.Played.{FileEnd, AtEnd, AtBad, PastLimit, Played, played_of, events_of}
 use Rattle.trapeze_cli.specs.Runs.{Setting, shown_lines, text_of, text_heard}
 use Rattle.trapeze_cli.specs.Command.{events_limit, piece, status_at, Texts}
-use Rattle.trapeze_cli.specs.Appends.{AppendsAll, AppendsPrefix, AppendsLess}
+use Rattle.trapeze_io.specs.Appends.{AppendsAll, AppendsPrefix, AppendsLess}
 use Rattle.trapeze_cli.specs.Promises.{StopsAt}
 use Rattle.trapeze_cli.specs.Whys.{Why, Finished, Refused, ReadFailed, WriteFailed, OutOfMemory, why}
 

@@ -22,7 +22,7 @@ use Rattle.trapeze_cli.specs.Forms.{Show, Run, Trace, View, Form, Check, Play, C
 use Rattle.trapeze_cli.specs.Played.{FileEnd, Played, played_of, events_of}
 use Rattle.trapeze_cli.specs.Runs.{Setting, shown_lines, lines_to}
 use Rattle.trapeze_cli.specs.Command.{events_limit, piece, Task, Plays, Says, Answer, IsAnswerOf, status_at}
-use Rattle.trapeze_cli.specs.Appends.{AppendsAll}
+use Rattle.trapeze_io.specs.Appends.{AppendsAll}
 
 -- the lines that a setting shows of items, up to an end
 abbrev pub shown_of : Setting → FileEnd → List Item → List Line

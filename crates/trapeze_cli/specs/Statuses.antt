@@ -1,9 +1,6 @@
 -- The statuses of a call, their numbers and their lines on the error sink.
-use Rattle.std.specs.Prelude.{◌≡◌, ℕ, List, [], ◌++◌, ◌⊎◌, codes, decimal, slice_index_or, Option, None, Some, IfSome, Result, Ok, Err}
-use Rattle.std.specs.Io.KnownBytes.{append_known}
-use Rattle.trapeze_io.specs.Causes.{Rose}
+use Rattle.std.specs.Prelude.{ℕ, List, [], ◌++◌, codes, decimal, slice_index_or, Option, None, Some, IfSome, Result, Ok, Err}
 use Rattle.trapeze_io.specs.Seen.{Held}
-use Rattle.trapeze_io.specs.Sinks.{AppendsPart}
 use Rattle.trapeze_cli.specs.Forms.{Form, policy_name, file_name}
 use Rattle.trapeze_cli.specs.Command.{policy_in}
 use Rattle.trapeze_cli.specs.declared.status.Input.TheVariants.{Policy as policy_input, Module as module_input, Events as events_input}
@@ -169,10 +166,6 @@ error_text form names (ReadFault input) = codes "cannot read " ++ file_name form
 error_text form names WriteFault = codes "cannot write output\n"
 error_text form names NoMemory = codes "out of memory\n"
 error_text form names (TooLong input) = codes "too long: " ++ file_name form names.files input ++ codes "\n"
-
--- the text was appended, or a prefix of it that is not all where the sink's count rose
-abbrev pub Says : Option (List ℕ) → Option (List ℕ) → ℕ → ℕ → List ℕ → Type 0
-Says old new before now text = (new ≡ append_known old text) ⊎ (AppendsPart old new text × Rose before now)
 
 -- P of the functions that a status may name: of those of the policy where the status names one, if the files held are told, and else of any
 abbrev pub WithNames : Option Form → Option Held → Status → (Named → Type 0) → Type 0

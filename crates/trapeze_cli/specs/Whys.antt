@@ -6,7 +6,7 @@ use Rattle.trapeze_cli.specs.declared.status.Status.TheVariants.{Done, Usage, Po
 use Rattle.trapeze_cli.specs.declared.status.Input.{Input}
 use Rattle.trapeze_cli.specs.declared.status.Input.TheVariants.{Policy as policy_input, Module as module_input, Events as events_input}
 use Rattle.trapeze_cli.specs.Command.{Task, Answer, IsAnswerOf, Texts, texts_by}
-use Rattle.trapeze_cli.specs.Appends.{AppendsAll, AppendsPrefix, AppendsLess}
+use Rattle.trapeze_io.specs.Appends.{AppendsAll, AppendsPrefix, AppendsLess}
 
 -- the task was done, for a file of events up to its end, to a bad line or past its limit; the words or another file were refused; a read
 -- or a write failed; or the call is out of memory

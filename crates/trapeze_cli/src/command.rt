@@ -16,7 +16,8 @@ ghost use Rattle.trapeze_cli.specs.Promises.{IsPrivateIn, OfTask, IsClean, IsSto
 ghost use Rattle.trapeze_cli.specs.Promises.{EndsExercise, IsRefusedCommand, TellsMemory};
 ghost use Rattle.trapeze_cli.specs.Runs.{setting_of, IsShownTo};
 ghost use Rattle.trapeze_cli.specs.Said.{said};
-ghost use Rattle.trapeze_cli.specs.Statuses.{WithNames, Says, error_text};
+ghost use Rattle.trapeze_io.specs.Appends.{Says};
+ghost use Rattle.trapeze_cli.specs.Statuses.{WithNames, error_text};
 ghost use Rattle.trapeze_cli.specs.Steps.{CallEnds, FaultsRose};
 ghost use Rattle.trapeze_cli.specs.Whys.{Finished, IsAnswered, Writes, IfReadFailed, given_of, why};
 
@@ -24,7 +25,7 @@ use crate::exercise::exercise;
 use crate::forms::{Command, Form, command_of};
 use crate::inputs::{read_modules, read_rules, shown_by};
 use crate::play::Scene;
-use crate::report::{report, write_pieces};
+use crate::report::report;
 use crate::status::{Input, Status};
 use crate::stream::play_stream;
 use facet_index::FacetIndex;
@@ -32,7 +33,7 @@ use itoa::Buffer;
 use policy_toml::Policy;
 use std::alloc::Global;
 use trapeze_host::Host;
-use trapeze_io::{Files, Sink};
+use trapeze_io::{Files, Sink, write_pieces};
 use wasm_validate::ValidModule;
 
 /// Carries out the words of a call. `run`, `trace` and `view` play the events of a file under a policy, up to its first bad

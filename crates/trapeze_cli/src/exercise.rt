@@ -17,7 +17,6 @@ ghost use Rattle.trapeze_cli.specs.Ends.{SaysOrRefuses, SaysText};
 ghost use Rattle.trapeze_cli.specs.Exercise.{exercise_lines, exercise_text};
 
 use crate::counts::Counts;
-use crate::report::write_pieces;
 use crate::status::Status;
 use event_file::Event;
 use facet_index::FacetIndex;
@@ -27,7 +26,7 @@ use policy_toml::Policy;
 use std::alloc::Global;
 use trapeze_exercise::{built_in_modules, built_in_policy, generate};
 use trapeze_host::Host;
-use trapeze_io::{NoMemory, Sink};
+use trapeze_io::{NoMemory, Sink, write_pieces};
 use trapeze_lines::Lines;
 use wasm_validate::ValidModule;
 

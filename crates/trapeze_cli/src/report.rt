@@ -1,11 +1,8 @@
 //! The line of a status on the error sink.
 
-ghost use Rattle.std.specs.Prelude.{◌≡◌, [], slice_index_or, OnOk, OnErr};
-ghost use Rattle.std.specs.List.{flat_map};
-ghost use Rattle.std.specs.Io.KnownBytes.{append_known};
-ghost use Rattle.trapeze_io.specs.Causes.{HasCause};
-ghost use Rattle.trapeze_io.specs.Sinks.{AppendsPart};
-ghost use Rattle.trapeze_cli.specs.Statuses.{Says, error_text, policy_text, lattice_text, place_text};
+ghost use Rattle.std.specs.Prelude.{◌≡◌, [], slice_index_or};
+ghost use Rattle.trapeze_io.specs.Appends.{Says};
+ghost use Rattle.trapeze_cli.specs.Statuses.{error_text, policy_text, lattice_text, place_text};
 ghost use Rattle.trapeze_cli.specs.Statuses.{position_text, pair_text, part_name, fault_text};
 ghost use Rattle.trapeze_cli.specs.Statuses.{module_text, decode_text, invalid_text};
 ghost use Rattle.trapeze_cli.specs.Named.{form_told, names_told, numbered_text, module_line, words_line};
@@ -17,7 +14,7 @@ use event_file::LineFault;
 use itoa::Buffer;
 use label_lattice::{Label, LatticeError};
 use policy_toml::{Part, Place, Policy, PolicyError};
-use trapeze_io::{Sink, WriteError, write_whole};
+use trapeze_io::{Sink, say_pieces};
 use wasm_ast::{FloatPlace, SegmentPlace};
 use wasm_decode::DecodeError;
 use wasm_validate::Invalid;
@@ -30,7 +27,7 @@ pub fn report<E: Sink>(err: &mut E, status: Status, form: Option<&Form>, policy:
 {
     match status {
         Status::Done => {}
-        Status::Usage => say(err, &[USAGE]),
+        Status::Usage => say_pieces(err, &[USAGE]),
         Status::Policy(fault) => report_policy(err, fault),
         Status::Module { function, fault } => {
             report_module(err, function_name(policy, function), fault);
@@ -38,7 +35,7 @@ pub fn report<E: Sink>(err: &mut E, status: Status, form: Option<&Form>, policy:
         Status::Events(error) => {
             let mut digits = Buffer::new();
             let number = digits.format(error.line);
-            say(
+            say_pieces(
                 err,
                 &[
                     b"events line ",
@@ -50,15 +47,15 @@ pub fn report<E: Sink>(err: &mut E, status: Status, form: Option<&Form>, policy:
             );
         }
         Status::ReadFault(input) => {
-            say(
+            say_pieces(
                 err,
                 &[b"cannot read ", file_name(form, policy, input), b"\n"],
             );
         }
-        Status::WriteFault => say(err, &[b"cannot write output\n"]),
-        Status::NoMemory => say(err, &[b"out of memory\n"]),
+        Status::WriteFault => say_pieces(err, &[b"cannot write output\n"]),
+        Status::NoMemory => say_pieces(err, &[b"out of memory\n"]),
         Status::TooLong(input) => {
-            say(err, &[b"too long: ", file_name(form, policy, input), b"\n"]);
+            say_pieces(err, &[b"too long: ", file_name(form, policy, input), b"\n"]);
         }
     }
 }
@@ -71,7 +68,7 @@ fn report_policy<E: Sink>(err: &mut E, fault: PolicyError)
         (policy_text fault) }
 {
     match fault {
-        PolicyError::Toml => say(err, &[b"policy: toml\n"]),
+        PolicyError::Toml => say_pieces(err, &[b"policy: toml\n"]),
         PolicyError::Extra(place) => report_place(err, b"extra", place),
         PolicyError::Missing(place) => report_place(err, b"missing", place),
         PolicyError::WrongKind(place) => report_place(err, b"wrong-kind", place),
@@ -80,7 +77,7 @@ fn report_policy<E: Sink>(err: &mut E, fault: PolicyError)
         PolicyError::UnknownLabel(place) => report_place(err, b"unknown-label", place),
         PolicyError::UnknownFunction(place) => report_place(err, b"unknown-function", place),
         PolicyError::OutOfRange(place) => report_place(err, b"out-of-range", place),
-        PolicyError::NoMemory => say(err, &[b"out of memory\n"]),
+        PolicyError::NoMemory => say_pieces(err, &[b"out of memory\n"]),
     }
 }
 
@@ -93,7 +90,7 @@ fn report_place<E: Sink>(err: &mut E, kind: &[u8], place: Place)
     let row = row_digits.format(place.row);
     let item = item_digits.format(place.item);
     let part = part_name(&place.part);
-    say(
+    say_pieces(
         err,
         &[
             b"policy: ",
@@ -114,15 +111,15 @@ fn report_lattice<E: Sink>(err: &mut E, fault: LatticeError)
         (lattice_text fault) }
 {
     match fault {
-        LatticeError::NoLabels => say(err, &[b"policy: lattice no-labels\n"]),
-        LatticeError::TooMany => say(err, &[b"policy: lattice too-many\n"]),
+        LatticeError::NoLabels => say_pieces(err, &[b"policy: lattice no-labels\n"]),
+        LatticeError::TooMany => say_pieces(err, &[b"policy: lattice too-many\n"]),
         LatticeError::BadName(position) => report_position(err, b"bad-name", position),
         LatticeError::Repeated(position) => report_position(err, b"repeated", position),
         LatticeError::UnknownLabel(position) => report_position(err, b"unknown-label", position),
         LatticeError::Cycle(a, b) => report_labels(err, b"cycle", a, b),
         LatticeError::NoJoin(a, b) => report_labels(err, b"no-join", a, b),
         LatticeError::NoMeet(a, b) => report_labels(err, b"no-meet", a, b),
-        LatticeError::NoMemory => say(err, &[b"out of memory\n"]),
+        LatticeError::NoMemory => say_pieces(err, &[b"out of memory\n"]),
     }
 }
 
@@ -132,7 +129,7 @@ fn report_position<E: Sink>(err: &mut E, kind: &[u8], position: u64)
 {
     let mut digits = Buffer::new();
     let number = digits.format(position);
-    say(
+    say_pieces(
         err,
         &[b"policy: lattice ", kind, b" ", number.as_bytes(), b"\n"],
     );
@@ -146,7 +143,7 @@ fn report_labels<E: Sink>(err: &mut E, kind: &[u8], a: Label, b: Label)
     let mut second_digits = Buffer::new();
     let first = first_digits.format(a.number());
     let second = second_digits.format(b.number());
-    say(
+    say_pieces(
         err,
         &[
             b"policy: lattice ",
@@ -192,12 +189,12 @@ fn report_words<E: Sink>(err: &mut E, name: &[u8], kind: &[u8], number: Option<u
         Some(number) => {
             let mut digits = Buffer::new();
             let number = digits.format(number);
-            say(
+            say_pieces(
                 err,
                 &[b"module ", name, b": ", kind, number.as_bytes(), b"\n"],
             );
         }
-        None => say(err, &[b"module ", name, b": ", kind, b"\n"]),
+        None => say_pieces(err, &[b"module ", name, b": ", kind, b"\n"]),
     }
 }
 
@@ -297,25 +294,4 @@ fn file_name<'a>(form: Option<&'a Form>, policy: Option<&'a Policy>, input: Inpu
         Input::Module(function) => function_file(policy, function),
         Input::Events => form.events().as_bytes(),
     }
-}
-
-/// Writes pieces, one after the other, as far as the sink takes them.
-fn say<E: Sink>(err: &mut E, pieces: &[&[u8]])
-    ensures { Says (E.written err.old) (E.written err.new) (E.faults err.old) (E.faults err.new)
-        (flat_map (λ piece. piece.now) pieces.now) }
-{
-    let _ = write_pieces(err, pieces);
-}
-
-pub(crate) fn write_pieces<E: Sink>(err: &mut E, pieces: &[&[u8]]) -> Result<(), WriteError>
-    ensures all { OnOk result
-        (E.written err.new ≡ append_known (E.written err.old) (flat_map (λ piece. piece.now) pieces.now)) }
-    ensures part { OnErr result
-        (AppendsPart (E.written err.old) (E.written err.new) (flat_map (λ piece. piece.now) pieces.now)) }
-    ensures cause { HasCause (E.faults err.old) (E.faults err.new) result }
-{
-    'pieces: for piece in pieces {
-        write_whole(err, piece)?;
-    }
-    Ok(())
 }

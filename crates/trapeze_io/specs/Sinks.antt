@@ -10,9 +10,3 @@ AppendsFirst old new result piece = MatchResult result (λ n. new ≡ append_kno
 -- at most the piece is written, and some of it where it is not empty
 abbrev pub WritesSome : {E : Type 0} → Result ℕ E → List ℕ → Type 0
 WritesSome result piece = MatchResult result (λ n. (n ≤ length piece) × (0 < length piece → 0 < n)) (λ _. ⊤)
-
--- a prefix of the bytes, and not all, was appended
-pub record AppendsPart (old new : Option (List ℕ)) (bytes : List ℕ) : Type 0 where
-  pub count : ℕ
-  pub proper : count < length bytes
-  pub appended : new ≡ append_known old (take count bytes)

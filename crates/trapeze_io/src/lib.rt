@@ -4,6 +4,7 @@
 
 mod bytes;
 mod failures;
+mod in_pieces;
 mod laws;
 mod memory_files;
 mod memory_sink;
@@ -19,6 +20,7 @@ mod words;
 
 pub use bytes::Bytes;
 pub use failures::{Failed, NoMemory};
+pub use in_pieces::{say_pieces, write_pieces};
 pub use laws::opens_add_up;
 pub use memory_files::MemFiles;
 pub use memory_sink::MemSink;

@@ -1,6 +1,6 @@
 use Rattle.trapeze_host.specs.Standing.{modules_lent}
 use Rattle.trapeze_cli.proofs.Playing.{err_is}
-use Rattle.trapeze_cli.proofs.Prefixes.{prefix_none}
+use Rattle.trapeze_io.proofs.Appended.{prefix_none}
 use Rattle.trapeze_cli.proofs.ToldLines.{facets_told, all_labelled}
 use Rattle.trapeze_cli.proofs.play.write_facets.Goals as goal
 

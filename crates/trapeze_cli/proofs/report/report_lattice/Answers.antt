@@ -13,4 +13,4 @@ pub returns-in-NoMeet : goal.returns-in-NoMeet
 returns-in-NoMeet g c = rw c.in-NoMeet.is c.report_labels-in-NoMeet.ensures
 
 pub returns-in-NoMemory : goal.returns-in-NoMemory
-returns-in-NoMemory g c = rw c.in-NoMemory.is c.say-in-NoMemory.ensures
+returns-in-NoMemory g c = rw c.in-NoMemory.is c.say_pieces-in-NoMemory.ensures

@@ -16,4 +16,4 @@ pub returns-in-OutOfRange : goal.returns-in-OutOfRange
 returns-in-OutOfRange g c = rw c.in-OutOfRange.is c.report_place-in-OutOfRange.ensures
 
 pub returns-in-NoMemory : goal.returns-in-NoMemory
-returns-in-NoMemory g c = rw c.in-NoMemory.is c.say-in-NoMemory.ensures
+returns-in-NoMemory g c = rw c.in-NoMemory.is c.say_pieces-in-NoMemory.ensures

@@ -6,7 +6,7 @@ use Rattle.trapeze_cli.specs.Runs.{setting_of}
 use Rattle.trapeze_cli.proofs.Playing.{err_is, state_after}
 use Rattle.trapeze_cli.proofs.PacedReading.{few_turns}
 use Rattle.trapeze_cli.proofs.PassedLines.{last_entry}
-use Rattle.trapeze_cli.proofs.Prefixes.{prefix_none}
+use Rattle.trapeze_io.proofs.Appended.{prefix_none}
 use Rattle.trapeze_cli.proofs.LastLine.{last_halts, last_told, none_told, bad_told, told_halt}
 use Rattle.trapeze_cli.proofs.stream.play_end.Goals as goal
 

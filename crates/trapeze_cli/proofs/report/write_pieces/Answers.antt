@@ -1,7 +1,0 @@
-use Rattle.trapeze_cli.proofs.Pieces.{OnErr-always, part_of_pieces}
-use Rattle.trapeze_cli.proofs.report.write_pieces.Goals as goal
-
-pub returns-in_err-write_whole-clause-part : goal.returns-in_err-write_whole-clause-part
-returns-in_err-write_whole-clause-part g c =
-    OnErr-always c.from_residual.result
-    (part_of_pieces _ _ _ (λ piece. piece.now) c.args.pieces.now c.pieces.piece-index _ c.pieces-test.true c.pieces.invariant.0 c.in_err-write_whole.ensures.part)
