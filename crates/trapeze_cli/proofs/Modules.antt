@@ -18,7 +18,7 @@ use Rattle.wasm_validate.specs.declared.invalid.Invalid.TheVariants as invalid
 use Rattle.trapeze_cli.specs.declared.status.Status.{Status}
 use Rattle.trapeze_cli.specs.declared.status.Status.TheVariants.{Module, NoMemory}
 use Rattle.trapeze_cli.specs.declared.status.Input.TheVariants.{Module as module_input}
-use Rattle.trapeze_cli.specs.declared.status.ModuleFault.TheVariants.{Decode, Invalid}
+use Rattle.fault_texts.specs.declared.modules.ModuleFault.TheVariants.{Decode, Invalid}
 use Rattle.trapeze_cli.specs.Forms.{Source, module_sources}
 use Rattle.trapeze_cli.specs.Command.{module_limit, file_of, IsModule, AreModules}
 use Rattle.trapeze_cli.specs.Judged.{IsTold, IsUnfit, IsJudged}

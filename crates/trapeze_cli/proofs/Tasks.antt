@@ -17,8 +17,8 @@ use Rattle.wasm_validate.specs.declared.invalid.Invalid.TheVariants as invalid
 use Rattle.trapeze_cli.specs.declared.status.Status.{Status}
 use Rattle.trapeze_cli.specs.declared.status.Status.TheVariants.{Module}
 use Rattle.trapeze_cli.specs.declared.status.Input.TheVariants.{Module as module_input}
-use Rattle.trapeze_cli.specs.declared.status.ModuleFault.{ModuleFault}
-use Rattle.trapeze_cli.specs.declared.status.ModuleFault.TheVariants.{Decode, Invalid}
+use Rattle.fault_texts.specs.declared.modules.ModuleFault.{ModuleFault}
+use Rattle.fault_texts.specs.declared.modules.ModuleFault.TheVariants.{Decode, Invalid}
 use Rattle.trapeze_cli.specs.Forms.{Form, policy_name, Command, Exercise, OnFiles}
 use Rattle.trapeze_cli.specs.Command.{module_limit, file_of, policy_in, shown_in, IsFaulty, IsModule, AreModules, Prepared, IsPrepared, Task, task_under, IsTaskUnder, IsTaskBy, IsTask, Answer, IsAnswerOf, answer_of}
 

@@ -17,8 +17,8 @@ use Rattle.trapeze_cli.specs.declared.status.Status.{Status}
 use Rattle.trapeze_cli.specs.declared.status.Status.TheVariants.{Done, Usage, Policy, Module, Events, ReadFault, TooLong}
 use Rattle.trapeze_cli.specs.declared.status.Input.{Input}
 use Rattle.trapeze_cli.specs.declared.status.Input.TheVariants.{Policy as policy_input, Module as module_input, Events as events_input}
-use Rattle.trapeze_cli.specs.declared.status.ModuleFault.{ModuleFault}
-use Rattle.trapeze_cli.specs.declared.status.ModuleFault.TheVariants.{Decode, Invalid}
+use Rattle.fault_texts.specs.declared.modules.ModuleFault.{ModuleFault}
+use Rattle.fault_texts.specs.declared.modules.ModuleFault.TheVariants.{Decode, Invalid}
 use Rattle.trapeze_cli.specs.declared.shown.Shown.{Shown}
 use Rattle.trapeze_cli.specs.declared.shown.Shown.TheVariants.{RunKinds, AllKinds, VisibleTo}
 use Rattle.trapeze_cli.specs.Exercise.{exercise_text}

@@ -6,10 +6,10 @@ use Rattle.wasm_ast.specs.Validity.{Valid, Invalidity}
 use Rattle.wasm_decode.specs.Grammar.{Spells}
 use Rattle.wasm_validate.specs.Invalids.{fault_of}
 use Rattle.wasm_validate.specs.declared.invalid.Invalid.{Invalid as InvalidFault}
-use Rattle.trapeze_cli.specs.declared.status.ModuleFault.TheVariants.{Invalid}
+use Rattle.fault_texts.specs.declared.modules.ModuleFault.TheVariants.{Invalid}
 use Rattle.trapeze_cli.specs.declared.status.Status.{Status}
 use Rattle.trapeze_cli.specs.declared.status.Status.TheVariants.{Module, NoMemory}
-use Rattle.trapeze_cli.specs.declared.status.ModuleFault.{ModuleFault}
+use Rattle.fault_texts.specs.declared.modules.ModuleFault.{ModuleFault}
 use Rattle.trapeze_cli.specs.Command.{IsFaulty}
 
 -- a status tells a fault, or out of memory where that is what the fault is

@@ -17,7 +17,7 @@ use Rattle.host_rules.specs.Play.{items_of}
 use Rattle.host_rules.specs.Views.{visible, visible_events, view}
 use Rattle.trapeze_cli.specs.declared.status.Status.{Status}
 use Rattle.trapeze_cli.specs.declared.status.Status.TheVariants.{Done, Usage, Policy, Module, Events, ReadFault, WriteFault, NoMemory, TooLong}
-use Rattle.trapeze_cli.specs.declared.status.ModuleFault.TheVariants.{Decode, Invalid}
+use Rattle.fault_texts.specs.declared.modules.ModuleFault.TheVariants.{Decode, Invalid}
 use Rattle.trapeze_cli.specs.Forms.{Show, Run, Trace, View, Form, Check, Play, Command, Exercise, OnFiles}
 use Rattle.trapeze_cli.specs.Played.{FileEnd, Played, played_of, events_of}
 use Rattle.trapeze_cli.specs.Runs.{Setting, shown_lines, lines_to}

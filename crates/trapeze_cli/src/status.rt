@@ -4,9 +4,8 @@ ghost use Rattle.std.specs.Prelude.{◌≡◌};
 ghost use Rattle.trapeze_cli.specs.Statuses.{code_of};
 
 use event_file::LineError;
+pub use fault_texts::ModuleFault;
 use policy_toml::PolicyError;
-use wasm_decode::DecodeError;
-use wasm_validate::Invalid;
 
 /// A file that a call reads.
 #[derive(Debug, Clone, Copy, PartialEq, Eq, Drop)]
@@ -17,15 +16,6 @@ pub enum Input {
     Module(u32),
     /// The file of events.
     Events,
-}
-
-/// Why a file gives no module of a function.
-#[derive(Debug, Clone, Copy, PartialEq, Eq, Drop)]
-pub enum ModuleFault {
-    /// The bytes spell no module.
-    Decode(DecodeError),
-    /// The module is not valid.
-    Invalid(Invalid),
 }
 
 /// How a call of the program ended.

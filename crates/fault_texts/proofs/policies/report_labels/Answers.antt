@@ -1,6 +1,6 @@
 use Rattle.std.proofs.Common.{◌≡◌, ◌∙◌, ap, append_assoc, decimal}
 use Rattle.trapeze_io.proofs.Appended.{Says-equal}
-use Rattle.trapeze_cli.proofs.report.report_labels.Goals as goal
+use Rattle.fault_texts.proofs.policies.report_labels.Goals as goal
 
 pub returns : goal.returns
 returns g c =

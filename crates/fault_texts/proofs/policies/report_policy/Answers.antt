@@ -1,4 +1,4 @@
-use Rattle.trapeze_cli.proofs.report.report_policy.Goals as goal
+use Rattle.fault_texts.proofs.policies.report_policy.Goals as goal
 
 pub returns-in-WrongKind : goal.returns-in-WrongKind
 returns-in-WrongKind g c = rw c.in-WrongKind.is c.report_place-in-WrongKind.ensures
@@ -17,3 +17,9 @@ returns-in-OutOfRange g c = rw c.in-OutOfRange.is c.report_place-in-OutOfRange.e
 
 pub returns-in-NoMemory : goal.returns-in-NoMemory
 returns-in-NoMemory g c = rw c.in-NoMemory.is c.say_pieces-in-NoMemory.ensures
+
+pub returns-in-Extra : goal.returns-in-Extra
+returns-in-Extra g c = rw c.in-Extra.is c.report_place.ensures
+
+pub returns-in-Missing : goal.returns-in-Missing
+returns-in-Missing g c = rw c.in-Missing.is c.report_place-in-Missing.ensures
