@@ -260,10 +260,10 @@ The others differ from it by what is said of them."""
 VALID = [
     ("IDLE", "the least one", module()),
     # members
-    ("EACH", "one of each, which is decoded and not valid: the type [i32 f64] to [], an import `reply` of type 1, a function of type 6, a\n"
-     "table of one entry and at most two, a memory of 17 pages, an i64 that can be set as the global and i32.const 7 as its value, the export\n"
-     "`handle` of function 2, the start function 3, an element segment for table 3 at 8 with 5 and 6, a body with an i32 as its local and\n"
-     "i32.const 1 as its code, and a data segment `alice` for memory 4 at 9", EACH),
+    ("EACH", "one of each, which is decoded and not valid: the type [i32 f64] to [], an import `reply` of type 1, a function of type 6,\n"
+     "a table of one entry and at most two, a memory of 17 pages, an i64 that can be set as the global and i32.const 7 as its value,\n"
+     "the export `handle` of function 2, the start function 3, an element segment for table 3 at 8 with 5 and 6, a body with an i32\n"
+     "as its local and i32.const 1 as its code, and a data segment `alice` for memory 4 at 9", EACH),
     # memories
     ("LAID", "a memory of one page and at most two, a data segment `abc` at 4, and one `xy` at 6",
      module(memory=section(5, vector([limits(1, 2)])),
@@ -328,8 +328,8 @@ VALID = [
     ("PAST_ALL_DATA", "a data segment of four bytes at 4,294,967,295", with_data("i32.const 4294967295")),
     ("WIDE_DATA", "a data segment at i64.const 0", with_data("i64.const 0")),
     # sizes
-    ("TARGETS", "what comes before the targets where a body, without locals, is: block i32, i32.const 7, i32.const 0, br_table of 100,000\n"
-     "targets and one more, end, drop", targets(100000)),
+    ("TARGETS", "what comes before the targets where a body, without locals, is: block i32, i32.const 7, i32.const 0, br_table of\n"
+     "100,000 targets and one more, end, drop", targets(100000)),
     ("TARGETS_1", "the same of 100,001 targets and one more", targets(100001)),
     ("BLOCKS", "what comes before the blocks where a body, without locals, is: 512 times block, br 511, 512 times end",
      begun(1 + 3 * 512 + len(code("br 511")) + 1)),
@@ -358,7 +358,10 @@ def front(second):
     ])
 
 
-ELEMENTS = section(9, vector([b"\x00" + code("i32.const 0 end") + vector([leb(0)]), b"\x00" + code("i32.const 2 end") + vector([leb(10)])]))
+ELEMENTS = section(9, vector([
+    b"\x00" + code("i32.const 0 end") + vector([leb(0)]),
+    b"\x00" + code("i32.const 2 end") + vector([leb(10)]),
+]))
 DATA = section(11, vector([b"\x00" + code("i32.const 0 end") + name("abcdef")]))
 
 

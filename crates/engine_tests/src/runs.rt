@@ -12,8 +12,8 @@ pub(crate) enum End {
     NoMemory,
 }
 
-/// A thread of a module: whether the second function has the type [i32 i32] to [i32], the code section, the pages that it may have, what it
-/// asks, how it ends, the units that it uses, and the first bytes of its memory then.
+/// A thread of a module: whether the second function has the type [i32 i32] to [i32], the code section, the pages that it may have,
+/// what it asks, how it ends, the units that it uses, and the first bytes of its memory then.
 pub(crate) struct Row {
     pub(crate) of_two: bool,
     pub(crate) code: &'static [u8],

@@ -7,11 +7,10 @@ pub(crate) const IDLE: &[u8] = b"\
     \x00asm\x01\x00\x00\x00\x01\x0f\x03`\x00\x00`\x02\x7f\x7f\x01\x7f`\x02\x7f\x7f\x00\x03\x02\x01\x00\x05\x03\x01\x00\x01\
     \x06\x06\x01\x7f\x00A\x05\x0b\x07\x0a\x01\x06handle\x00\x00\x0a\x08\x01\x06\x02\x01\x7f\x01~\x0b";
 
-/// one of each, which is decoded and not valid: the type [i32 f64] to [], an import `reply` of type 1, a function of type 6, a
-/// table of one entry and at most two, a memory of 17 pages, an i64 that can be set as the global and i32.const 7 as its value, the
-/// export
-/// `handle` of function 2, the start function 3, an element segment for table 3 at 8 with 5 and 6, a body with an i32 as its local and
-/// i32.const 1 as its code, and a data segment `alice` for memory 4 at 9
+/// one of each, which is decoded and not valid: the type [i32 f64] to [], an import `reply` of type 1, a function of type 6,
+/// a table of one entry and at most two, a memory of 17 pages, an i64 that can be set as the global and i32.const 7 as its value,
+/// the export `handle` of function 2, the start function 3, an element segment for table 3 at 8 with 5 and 6, a body with an i32
+/// as its local and i32.const 1 as its code, and a data segment `alice` for memory 4 at 9
 pub(crate) const EACH: &[u8] = b"\
     \x00asm\x01\x00\x00\x00\x01\x06\x01`\x02\x7f|\x00\x02\x11\x01\x07trapeze\x05reply\x00\x01\x03\x02\x01\x06\x04\x05\x01p\
     \x01\x01\x02\x05\x03\x01\x00\x11\x06\x06\x01~\x01A\x07\x0b\x07\x0a\x01\x06handle\x00\x02\x08\x01\x03\x09\x08\x01\x03A\
@@ -277,8 +276,8 @@ pub(crate) const WIDE_DATA: &[u8] = b"\
     \x06\x06\x01\x7f\x00A\x05\x0b\x07\x0a\x01\x06handle\x00\x00\x0a\x08\x01\x06\x02\x01\x7f\x01~\x0b\x0b\x0a\x01\x00B\x00\
     \x0b\x04mail";
 
-/// what comes before the targets where a body, without locals, is: block i32, i32.const 7, i32.const 0, br_table of 100,000
-/// targets and one more, end, drop
+/// what comes before the targets where a body, without locals, is: block i32, i32.const 7, i32.const 0, br_table of
+/// 100,000 targets and one more, end, drop
 pub(crate) const TARGETS: &[u8] = b"\
     \x00asm\x01\x00\x00\x00\x01\x0f\x03`\x00\x00`\x02\x7f\x7f\x01\x7f`\x02\x7f\x7f\x00\x03\x02\x01\x00\x05\x03\x01\x00\x01\
     \x06\x06\x01\x7f\x00A\x05\x0b\x07\x0a\x01\x06handle\x00\x00\x0a\xb3\x8d\x06\x01\xaf\x8d\x06\x00\x02\x7fA\x07A\x00\x0e\
