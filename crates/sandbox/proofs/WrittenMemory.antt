@@ -1,5 +1,5 @@
 -- A memory with other bytes.
-use Rattle.std.proofs.Common.{◌≡◌, List, ℕ, refl, sym, ap, ◌∙◌}
+use Rattle.std.proofs.Common.{◌≡◌, List, ℕ, refl}
 use Rattle.std.specs.Prelude.{Option, Some, None, unwrap_or}
 use Rattle.wasm_memory.specs.Contents.{Contents, after}
 

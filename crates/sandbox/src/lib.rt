@@ -11,6 +11,3 @@ pub use sandboxes::Sandbox;
 pub use suspended::Suspended;
 pub use wasm_exec::{Asked, Trap};
 pub use wasm_memory::{OutOfBounds, StoreError};
-
-#[cfg(test)]
-mod tests;

@@ -44,6 +44,3 @@ pub use places::{FloatPlace, SegmentPlace};
 pub use tables::Table;
 pub use trees::{Instr, Seq};
 pub use val_types::{BlockType, ValType, same_types};
-
-#[cfg(test)]
-mod tests;

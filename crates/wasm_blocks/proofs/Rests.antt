@@ -35,9 +35,6 @@ front_of i rest whole e =
     ap (λ k. slice_get whole k) at ∙ (ap (λ w. slice_get w (length e.0)) e.1
     ∙ (slice_get-get_or (e.0 ++ i ∷ rest) (length e.0) i long ∙ ap (λ v. Some v) (get_or-append_seam e.0 i rest i)))
 
-pub placed_take : (body : List Instr) (i : Instr) (rest : List Instr) (ns : List (List Instr)) (os : List Open) → Placed body (i ∷ rest) ns os → Placed body rest ns os
-placed_take body i rest ns os p = record { nexts_are = p.nexts_are; code_ends = end_rest (i ∷ rest) (code_in body os) p.code_ends }
-
 ending : (loops : Bool) (i : Instr) (rest whole next : List Instr) (left : ℕ) → IsEnd (i ∷ rest) whole → next ≡ (if loops then i ∷ rest else rest) → left ≡ length next → next ≡ last whole left
 ending true i rest whole next left e n h = n ∙ (sym (last_of_end (i ∷ rest) whole e) ∙ (ap (λ xs. last whole (length xs)) (sym n) ∙ ap (last whole) (sym h)))
 ending false i rest whole next left e n h = n ∙ (sym (last_of_end rest whole (end_rest (i ∷ rest) whole e)) ∙ (ap (λ xs. last whole (length xs)) (sym n) ∙ ap (last whole) (sym h)))

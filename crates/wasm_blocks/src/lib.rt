@@ -8,6 +8,3 @@ mod open;
 pub use blocks::{branch_to, enter_block, leave_block};
 pub use hot::Hot;
 pub use open::Open;
-
-#[cfg(test)]
-mod tests;

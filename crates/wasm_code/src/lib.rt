@@ -11,8 +11,6 @@ mod input;
 mod instructions;
 mod laws;
 mod reader;
-#[cfg(test)]
-mod tests;
 
 pub use bodies::{decode_code, decode_expr, filled_body};
 pub use error::DecodeError;

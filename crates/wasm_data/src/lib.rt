@@ -16,6 +16,3 @@ pub use frames::{hand, open_frame};
 pub use instructions::data;
 pub use marks::{Marks, keep, local, put, set_local, top};
 pub use moved::Moved;
-
-#[cfg(test)]
-mod tests;

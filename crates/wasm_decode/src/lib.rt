@@ -6,8 +6,6 @@ mod laws;
 mod members;
 mod modules;
 mod sections;
-#[cfg(test)]
-mod tests;
 
 pub use laws::{finds_faults, reads_modules, reads_what_is_spelled, spells_or_fails};
 pub use modules::decode;

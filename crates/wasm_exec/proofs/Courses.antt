@@ -1,11 +1,11 @@
 -- Units of a course, one by one.
 use Rattle.std.proofs.Common.{◌≡◌, ℕ, ◌+◌, ◌-◌, ◌<◌, ◌≤◌, List, refl, sym, ap, subst, ◌∙◌, arith, Bor}
-use Rattle.std.specs.Prelude.{zero, suc}
+use Rattle.std.specs.Prelude.{suc}
 use Rattle.wasm_ast.specs.declared.hosts.HostName.{HostName}
 use Rattle.wasm_ast.specs.declared.trees.Instr.{Instr}
 use Rattle.wasm_ast.specs.declared.modules.Module.{Module}
 use Rattle.wasm_ast.specs.Validity.{Valid}
-use Rattle.wasm_semantics.specs.Threads.{Store, Thread, Outcome, Goes}
+use Rattle.wasm_semantics.specs.Threads.{Store, Outcome, Goes}
 use Rattle.wasm_semantics.specs.Control.{Spot, thread_at}
 use Rattle.wasm_semantics.specs.Units.{unit, unit_at, limited, Course, after_unit, units_from}
 use Rattle.wasm_semantics.specs.OfModule.{IsOf, Sound}

@@ -1,6 +1,6 @@
 -- Functions of type [] to [] with which a thread begins.
 use Rattle.std.proofs.Common.{◌≡◌, ◌<◌, ◌≤◌, ◌+◌, ◌-◌, ℕ, List, [], ◌∷◌, ◌++◌, length, take, drop, replicate, refl, sym, ap, subst, ◌∙◌, arith, zero-add}
-use Rattle.std.specs.Prelude.{Option, Some, None, IsTrue, ◌&&◌, slice_get, option_map, option_and_then, option_to_list, find, bytes_eq}
+use Rattle.std.specs.Prelude.{Option, Some, None, IsTrue, ◌&&◌, slice_get, option_map, find, bytes_eq}
 use Rattle.std.proofs.lemmas.List.{take-replicate, drop-replicate, length-replicate}
 use lib.Chars.{codes}
 use Rattle.wasm_ast.specs.declared.val_types.ValType.{ValType}
@@ -12,8 +12,8 @@ use Rattle.wasm_ast.specs.declared.trees.Instr.{Instr}
 use Rattle.wasm_ast.specs.declared.modules.Module.{Module}
 use Rattle.wasm_ast.specs.declared.hosts.HostName.{HostName}
 use Rattle.wasm_ast.specs.declared.hosts.HostName.TheVariants.{Input, Read, Write, Delete, Send, Raise, Reply, OwnLabel, Release}
-use Rattle.wasm_ast.specs.Spaces.{Function, own, own_type, joined, function_at, type_of, imported_type, function_count}
-use Rattle.wasm_ast.specs.Hosts.{host_named, host_of, host_params}
+use Rattle.wasm_ast.specs.Spaces.{Function, own, own_type, joined, type_of, imported_type, function_count}
+use Rattle.wasm_ast.specs.Hosts.{host_named, host_params}
 use Rattle.wasm_ast.specs.Structure.{is_entry_type, is_start, is_handle, is_function}
 use Rattle.wasm_ast.specs.Validity.{Valid, handle_of}
 use Rattle.wasm_ast.proofs.Lists.{both_true, find_passes, then_some, within}
@@ -30,10 +30,9 @@ use Rattle.wasm_blocks.specs.Levels.{level_in, levels_in, IsTower}
 use Rattle.wasm_blocks.specs.Rest.{last, code_in, nexts_in}
 use Rattle.wasm_blocks.proofs.Cuts.{above_all, under_all}
 use Rattle.wasm_frames.specs.declared.active.Place.{Place}
-use Rattle.wasm_frames.specs.declared.callees.Callee.{Callee}
 use Rattle.wasm_frames.specs.declared.callees.Entry.{Entry}
 use Rattle.wasm_frames.specs.Callees.{IsEntry, IsHost}
-use Rattle.wasm_frames.specs.Resting.{body_of, code_of, frame_in, frame_at_rest, frames_at_rest, BeginsAt, IsResting, AreResting}
+use Rattle.wasm_frames.specs.Resting.{body_of, code_of, frame_at_rest, frames_at_rest, BeginsAt, IsResting, AreResting}
 use Rattle.wasm_frames.proofs.Calling.{found, body_found}
 use Rattle.wasm_exec.specs.Starting.{AreFirst}
 

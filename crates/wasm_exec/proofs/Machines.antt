@@ -1,12 +1,11 @@
 -- Machines between two runs.
-use Rattle.std.proofs.Common.{◌≡◌, ℕ, ◌+◌, ◌-◌, ◌<◌, ◌≤◌, ◌^◌, Bool, true, false, List, [], ◌∷◌, ◌++◌, length, take, replicate, refl, sym, ap, subst, ◌∙◌, arith}
+use Rattle.std.proofs.Common.{◌≡◌, ℕ, ◌+◌, ◌-◌, ◌<◌, ◌≤◌, ◌^◌, Bool, true, false, List, [], ◌∷◌, length, take, replicate, refl, sym, ap, subst, ◌∙◌, arith}
 use Rattle.std.specs.Prelude.{Option, Some, None, is_some, nat_lt, if◌then◌else◌}
 use Rattle.std.proofs.Math.ListN.{set}
 use Rattle.std.proofs.lemmas.Bool.Decides.{nat_tests}
 use Rattle.std.proofs.lemmas.List.{take-set-le, length-set, length-replicate}
 use Rattle.wasm_ast.specs.declared.hosts.HostName.{HostName}
 use Rattle.wasm_ast.specs.declared.hosts.HostName.TheVariants.{Input, Read, Write, Delete, Send, Raise, Reply, OwnLabel, Release}
-use Rattle.wasm_ast.specs.declared.trees.Instr.{Instr}
 use Rattle.wasm_ast.specs.declared.modules.Module.{Module}
 use Rattle.wasm_ast.specs.Spaces.{memory_of, page_limit}
 use Rattle.wasm_ast.specs.Bytes.{placed, first_memory}
@@ -17,15 +16,15 @@ use Rattle.wasm_ast.specs.Validity.{Valid}
 use Rattle.wasm_ast.specs.Hosts.{host_results}
 use Rattle.wasm_semantics.specs.Operators.{truth}
 use Rattle.wasm_semantics.specs.Threads.{Store, Frame}
-use Rattle.wasm_semantics.specs.Control.{thread_at, spot_with}
-use Rattle.wasm_semantics.specs.Units.{Course, units, with_memory, answered}
+use Rattle.wasm_semantics.specs.Control.{thread_at}
+use Rattle.wasm_semantics.specs.Units.{Course, units, answered}
 use Rattle.wasm_semantics.specs.Begin.{first_globals, first_table, begin}
-use Rattle.wasm_semantics.specs.OfModule.{IsMemory, IsOf, IsAnswer}
+use Rattle.wasm_semantics.specs.OfModule.{IsOf, IsAnswer}
 use Rattle.wasm_semantics.proofs.Begin.{begin_is_of}
 use Rattle.wasm_semantics.proofs.Waits.{answer_is_of}
 use Rattle.wasm_semantics.proofs.Memory.{same_length, another_is_of, another_waits}
 use Rattle.wasm_data.specs.Cuts.{above, under}
-use Rattle.wasm_data.specs.Marked.{locals_in, operands_in, raised}
+use Rattle.wasm_data.specs.Marked.{locals_in, operands_in}
 use Rattle.wasm_data.proofs.Arrays.{put_operands, put_locals, length_operands}
 use Rattle.wasm_blocks.specs.declared.open.Open.{Open}
 use Rattle.wasm_blocks.specs.Levels.{Around, spot_in}

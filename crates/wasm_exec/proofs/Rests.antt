@@ -1,18 +1,17 @@
 -- From rest to rest.
-use Rattle.std.proofs.Common.{◌≡◌, ℕ, ◌+◌, ◌-◌, ◌<◌, ◌≤◌, List, [], ◌∷◌, ◌++◌, length, take, refl, sym, ap, subst, ◌∙◌, arith, Bor}
+use Rattle.std.proofs.Common.{◌≡◌, ℕ, ◌+◌, ◌-◌, ◌<◌, ◌≤◌, List, [], ◌∷◌, length, take, refl, sym, ap, subst, ◌∙◌, arith, Bor}
 use Rattle.std.proofs.Math.Seq.{take-length}
 use Rattle.wasm_ast.specs.declared.hosts.HostName.{HostName}
 use Rattle.wasm_ast.specs.declared.hosts.HostName.TheVariants.{Input, Read, Write, Delete, Send, Raise, Reply, OwnLabel, Release}
 use Rattle.wasm_ast.specs.declared.trees.Instr.{Instr}
 use Rattle.wasm_ast.specs.declared.modules.Module.{Module}
-use Rattle.wasm_ast.specs.Spaces.{memory_of}
 use Rattle.wasm_ast.specs.Hosts.{host_params, host_results}
 use Rattle.wasm_semantics.specs.declared.traps.Trap.{Trap}
 use Rattle.wasm_semantics.specs.Operators.{truth}
 use Rattle.wasm_semantics.specs.Threads.{Store, Frame, Thread, Goes, Calls, Trapped, Done}
 use Rattle.wasm_semantics.specs.Control.{thread_at}
 use Rattle.wasm_semantics.specs.Units.{units, units_from, Course}
-use Rattle.wasm_semantics.specs.OfModule.{Holds, IsMemory, IsOf, IsWaiting, IsCall, Sound}
+use Rattle.wasm_semantics.specs.OfModule.{IsOf, IsWaiting, IsCall, Sound}
 use Rattle.wasm_semantics.specs.Laws.{in_four_places}
 use Rattle.wasm_data.specs.Cuts.{above, under}
 use Rattle.wasm_data.specs.Marked.{locals_in, operands_in}
@@ -34,7 +33,7 @@ use Rattle.wasm_exec.specs.declared.stops.Stop.{Stop}
 use Rattle.wasm_exec.specs.declared.stops.Stop.TheVariants as stop
 use Rattle.wasm_exec.specs.Codes.{HasLaid}
 use Rattle.wasm_exec.specs.Going.{active_at, place_of, code_at, IsGoing, HasWarmed}
-use Rattle.wasm_exec.specs.Resting.{thread_at_rest, AreAtRest, CanGoOn, AwaitsAnswer, HasCalled, Rests, HasGrown}
+use Rattle.wasm_exec.specs.Resting.{thread_at_rest, AreAtRest, CanGoOn, AwaitsAnswer, Rests, HasGrown}
 use Rattle.wasm_exec.specs.Rounds.{ended, IsLeft, HasStopped, Comes}
 use Rattle.wasm_exec.proofs.WokenFrames.{wakes, rests}
 
@@ -74,10 +73,6 @@ begins m pages count st p ps code a values os high cs ns0 ns can none empty whol
     let l'' = subst (λ xs. HasLaid (body_of m p.function) (above p.low os) xs ns) empty l' in
     let B : Active → List (Bor (List Instr)) → Type 0 = λ b ys. HasBegun m pages count st (thread_at_rest m st (p ∷ ps) values os) b (held ps ys values os ns) in
     subst (λ b. B b cs) (sym is) (subst (B (active_at p code)) (sym none) (begins_at m pages count st p ps code values os ns can e' l''))
-
--- the blocks of the frame at a place lie on the stack
-pub low_inside : (p : Place) (ps : List Place) (values : List ℕ) (os : List Open) → AreAtRest p ps values os → p.low ≤ length os
-low_inside p ps values os r = r.resting.0.low
 
 -- more room
 pub grows : (m : Module) (st : Store) (a : Active) (ps : List Place) (cs : List (Bor (List Instr))) (values values' : List ℕ) (os : List Open) (ns : List (Bor (List Instr))) → IsGoing m st a (held ps cs values os ns) → HasGrown values values'
@@ -175,9 +170,6 @@ args_of h a name = let sp = a.hot.marks.sp in locals_in sp (sp + length (host_pa
 -- its arguments have their types
 pub call_of : (m : Module) (course : Course) (used : ℕ) (st : Store) (h : Surroundings) (name : HostName) (a : Active) → HasStopped m course used st h name a → IsCall m name (args_of h a name) (thread_in m st a h)
 call_of m course used st h name a s = subst (Sound m) s.asked.is s.sound
-
-pub asked_room : (m : Module) (course : Course) (used : ℕ) (st : Store) (h : Surroundings) (name : HostName) (a : Active) → HasStopped m course used st h name a → a.hot.marks.sp + length (host_params name) ≤ length h.values
-asked_room m course used st h name a s = s.asked.room
 
 pub calls : (m : Module) (course : Course) (used : ℕ) (st : Store) (a : Active) (h : Surroundings) (p : Place) (name : HostName) (asked : Asked) → HasStopped m course used st h name a → asked.name ≡ name → asked.args ≡ in_four_places (args_of h a name)
     → Waits m course st a h p used (stop.Call asked)

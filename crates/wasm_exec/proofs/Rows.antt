@@ -1,6 +1,6 @@
 -- Rows of the table of functions.
-use Rattle.std.proofs.Common.{◌≡◌, ℕ, ◌+◌, ◌-◌, ◌<◌, ◌≤◌, ◌⊎◌, inl, inr, Bool, true, false, List, [], ◌∷◌, ◌++◌, length, refl, sym, ap, subst, ◌∙◌, arith, length-append}
-use Rattle.std.specs.Prelude.{Option, Some, None, IsTrue, not, nat_eq, nat_lt, nat_le, slice_get, if◌then◌else◌, zero, suc, option_and_then}
+use Rattle.std.proofs.Common.{◌≡◌, ℕ, ◌+◌, ◌-◌, ◌<◌, ◌≤◌, Bool, false, List, [], ◌∷◌, length, refl, sym, ap, subst, ◌∙◌, arith}
+use Rattle.std.specs.Prelude.{Option, Some, None, IsTrue, not, nat_eq, nat_lt, nat_le, slice_get, if◌then◌else◌, option_and_then}
 use Rattle.std.specs.List.{list_all}
 use Rattle.std.proofs.lemmas.Bool.Decides.{nat_tests}
 use Rattle.wasm_ast.specs.declared.func_types.FuncType.{FuncType}
@@ -11,16 +11,15 @@ use Rattle.wasm_ast.specs.declared.imports.ImportKind.TheVariants as kind
 use Rattle.wasm_ast.specs.declared.hosts.HostName.{HostName}
 use Rattle.wasm_ast.specs.declared.val_types.ValType.{ValType}
 use Rattle.wasm_ast.specs.declared.modules.Module.{Module}
-use Rattle.wasm_ast.specs.Spaces.{own_type, joined, function_at, function_of, own, imported_type, function_count}
-use Rattle.wasm_ast.specs.Hosts.{host_named, host_of, host_params, agrees}
+use Rattle.wasm_ast.specs.Spaces.{own_type, joined, function_at, function_of, own, imported_type}
+use Rattle.wasm_ast.specs.Hosts.{host_named, host_params, agrees}
 use Rattle.wasm_ast.specs.Validity.{Valid}
 use Rattle.wasm_ast.proofs.Lists.{each_of}
 use Rattle.wasm_ast.proofs.Valids.{rule, host_at, type_of_import, type_of_own}
 use Rattle.wasm_semantics.specs.Operators.{truth}
 use Rattle.wasm_frames.specs.declared.callees.Callee.{Callee}
-use Rattle.wasm_frames.specs.declared.callees.Entry.{Entry}
 use Rattle.wasm_frames.specs.declared.callees.Runs.TheVariants as runs
-use Rattle.wasm_frames.specs.Callees.{IsCallee, AreCallees}
+use Rattle.wasm_frames.specs.Callees.{IsCallee}
 
 -- an import is a function of the host
 not_other : (m : Module) (o : Option HostName) (k : ImportKind) → ((x : ℕ) → k ≡ kind.Function x → ⊥) → IsTrue (agrees o (imported_type m k)) → ⊥
@@ -101,27 +100,3 @@ own_row m k x n d gives ft body valid e t b params locals results =
 pub record RowsTo (m : Module) (n : ℕ) (rows : List Callee) : Type 0 where
   pub many : length rows ≡ n
   pub each : (x : ℕ) (c : Callee) → slice_get rows x ≡ Some c → IsCallee m x c
-
-last_of_rows : (rows : List Callee) (row : Callee) (x : ℕ) (c : Callee) → slice_get (rows ++ row ∷ []) x ≡ Some c → (slice_get rows x ≡ Some c) ⊎ ((x ≡ length rows) × (row ≡ c))
-last_of_rows [] row zero c e = inr (refl, cc)
-last_of_rows [] row (suc x) c e = cc
-last_of_rows (r ∷ rows) row zero c e = inl e
-last_of_rows (r ∷ rows) row (suc x) c e = elim (last_of_rows rows row x c e) [ inl h ↦ inl h | inr h ↦ inr (ap (λ n. suc n) h.0, h.1) ]
-
-pub no_rows : (m : Module) (n : ℕ) (rows : List Callee) → rows ≡ [] → n ≡ 0 → RowsTo m n rows
-no_rows m n rows e z = record {
-  many = omega (arith, ap length e, z);
-  each = λ x c h. let clash : None ≡ Some c = ap (λ xs. slice_get xs x) (sym e) ∙ h in cc;
-}
-
-pub row_more : (m : Module) (n n' : ℕ) (rows rows' : List Callee) (row : Callee) → RowsTo m n rows → IsCallee m n row → n' ≡ n + 1 → rows' ≡ rows ++ row ∷ [] → RowsTo m n' rows'
-row_more m n n' rows rows' row r is next e = record {
-  many = omega (arith, ap length e, length-append rows (row ∷ []), r.many, next);
-  each = λ x c h. elim (last_of_rows rows row x c (ap (λ xs. slice_get xs x) (sym e) ∙ h)) [
-    | inl there ↦ r.each x c there
-    | inr new ↦ subst (IsCallee m x) new.1 (subst (λ k. IsCallee m k row) (sym (new.0 ∙ r.many)) is)
-  ];
-}
-
-pub all_rows : (m : Module) (n : ℕ) (rows : List Callee) → RowsTo m n rows → n ≡ function_count m → AreCallees m rows
-all_rows m n rows r e = record { many = r.many ∙ e; each = r.each }

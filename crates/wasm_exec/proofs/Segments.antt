@@ -1,6 +1,6 @@
 -- Element segments laid on a table one after another.
 use Rattle.std.proofs.Common.{◌≡◌, ◌≤◌, ◌<◌, ◌+◌, ℕ, List, [], ◌∷◌, ◌++◌, length, take, drop, get_or, replicate, refl, sym, ap, subst, ◌∙◌, arith, append_assoc, length-append, length-take}
-use Rattle.std.specs.Prelude.{Option, Some, None, slice_get, zero, suc, map}
+use Rattle.std.specs.Prelude.{Option, Some, None, slice_get, zero, suc}
 use Rattle.std.proofs.Math.ListN.{set}
 use Rattle.std.proofs.Math.Seq.{drop-cons, set-append_seam}
 use Rattle.std.proofs.lemmas.List.{take_more, length-map, map-append}

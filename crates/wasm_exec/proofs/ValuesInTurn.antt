@@ -1,6 +1,6 @@
 -- Values from a place of an array on, one by one.
-use Rattle.std.proofs.Common.{◌≡◌, ℕ, ◌+◌, ◌-◌, ◌<◌, ◌≤◌, ◌^◌, List, [], ◌∷◌, length, take, drop, get_or, sym, ap, subst, ◌∙◌, arith}
-use Rattle.std.specs.Prelude.{zero, suc}
+use Rattle.std.proofs.Common.{◌≡◌, ℕ, ◌+◌, ◌-◌, ◌<◌, ◌≤◌, ◌^◌, List, [], ◌∷◌, length, take, drop, get_or, ap, subst, ◌∙◌, arith}
+use Rattle.std.specs.Prelude.{suc}
 use Rattle.std.proofs.Math.Seq.{drop-cons}
 use Rattle.wasm_ast.specs.declared.val_types.ValType.TheVariants.{I32}
 use Rattle.wasm_semantics.specs.OfModule.{Holds}

@@ -1,5 +1,5 @@
 -- Frames whose code is found again.
-use Rattle.std.proofs.Common.{◌≡◌, ℕ, ◌+◌, ◌-◌, ◌<◌, ◌≤◌, List, [], ◌∷◌, ◌++◌, length, take, drop, refl, sym, ap, subst, ◌∙◌, arith, Bor, length-append}
+use Rattle.std.proofs.Common.{◌≡◌, ℕ, ◌+◌, ◌-◌, ◌≤◌, List, [], ◌∷◌, ◌++◌, length, take, drop, refl, sym, ap, subst, ◌∙◌, arith, Bor, length-append}
 use Rattle.std.specs.Prelude.{map, slice_get, slice_set, Some}
 use Rattle.std.proofs.lemmas.List.{take-append-drop}
 use Rattle.std.proofs.Math.ListN.{drop_of_length-le}
@@ -18,7 +18,7 @@ use Rattle.wasm_blocks.specs.Runs.{own_nexts}
 use Rattle.wasm_blocks.proofs.Cuts.{length_above, length_under, under_all}
 use Rattle.wasm_frames.specs.declared.active.Place.{Place}
 use Rattle.wasm_frames.specs.declared.active.Active.{Active}
-use Rattle.wasm_frames.specs.Resting.{body_of, frame_in, frame_at_rest, frames_at_rest, BeginsAt, AreResting}
+use Rattle.wasm_frames.specs.Resting.{body_of, frame_in, frame_at_rest, frames_at_rest, AreResting}
 use Rattle.wasm_frames.specs.Standing.{Surroundings, held, thread_in, nexts_under, IsStanding, IsPlaced}
 use Rattle.wasm_frames.proofs.Resting.{last_of_end, frame_warm}
 use Rattle.wasm_exec.specs.Codes.{HasLaid}

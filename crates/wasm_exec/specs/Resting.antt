@@ -12,7 +12,6 @@ use Rattle.wasm_blocks.specs.declared.open.Open.{Open}
 use Rattle.wasm_frames.specs.declared.active.Place.{Place}
 use Rattle.wasm_frames.specs.Resting.{frames_at_rest, AreResting}
 use Rattle.wasm_exec.specs.declared.stops.Asked.{Asked}
-use Rattle.wasm_exec.specs.declared.stops.Ran.{Ran}
 use Rattle.wasm_exec.specs.declared.stops.Stop.{Stop}
 use Rattle.wasm_exec.specs.declared.stops.Stop.TheVariants as stop
 use Rattle.wasm_exec.specs.Rounds.{ended}

@@ -1,5 +1,5 @@
 -- The frames that a module begins with, at rest.
-use Rattle.std.specs.Prelude.{ℕ, ◌≤◌, ◌≡◌, List, [], ◌∷◌, ◌++◌, length, replicate}
+use Rattle.std.specs.Prelude.{◌≤◌, ◌≡◌, List, [], ◌∷◌, ◌++◌, length, replicate}
 use Rattle.wasm_ast.specs.declared.modules.Module.{Module}
 use Rattle.wasm_ast.specs.Validity.{handle_of}
 use Rattle.wasm_semantics.specs.Begin.{entry_frame}

@@ -3,7 +3,7 @@ use Rattle.std.proofs.Common.{◌≡◌, ℕ, ◌+◌, ◌-◌, ◌≤◌, List,
 use Rattle.wasm_ast.specs.declared.trees.Instr.{Instr}
 use Rattle.wasm_ast.specs.declared.modules.Module.{Module}
 use Rattle.wasm_semantics.specs.Operators.{truth}
-use Rattle.wasm_semantics.specs.Threads.{Store, Frame, Goes, Done}
+use Rattle.wasm_semantics.specs.Threads.{Store, Frame, Goes}
 use Rattle.std.specs.Prelude.{zero, suc}
 use Rattle.wasm_semantics.specs.Control.{Spot, thread_at, hand, finish, branch, branch_at}
 use Rattle.wasm_data.specs.declared.marks.Marks.{Marks}
@@ -46,16 +46,6 @@ finish_is m st a ps cs values os ns k =
     let n = truth a.gives in
     let fs = frames_at_rest m ps values (under a.hot.low os) in
     split_goes n (values_in own ops) (λ kept below. hand st kept fs) k ∙ ap (λ vs. hand st vs fs) (take_kept n own ops k)
-
-no_places : (ps : List Place) → length ps ≡ 0 → ps ≡ []
-no_places [] e = refl
-no_places (p ∷ ps) e = absurd (omega (arith, e))
-
-pub finish_done : (m : Module) (st : Store) (a : Active) (ps : List Place) (cs : List (Bor (List Instr))) (values : List ℕ) (os : List Open) (ns : List (Bor (List Instr))) → CanReturn a values os → length ps ≡ 0
-    → (let p = spot_at m st a (held ps cs values os ns) in finish p p.level.values ≡ Done)
-finish_done m st a ps cs values os ns k e =
-    finish_is m st a ps cs values os ns k
-    ∙ ap (λ qs. hand st (take (truth a.gives) (operands_in a.hot.marks.floor a.hot.marks.sp values)) (frames_at_rest m qs values (under a.hot.low os))) (no_places ps e)
 
 -- the frame below, with other marks
 abbrev pub resumed : Place → Bor (List Instr) → ℕ → Active

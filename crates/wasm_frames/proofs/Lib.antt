@@ -4,6 +4,4 @@ pub mod FrameEnds
 pub mod FewerOperands
 pub mod Lifts
 pub mod Resting
-pub mod TestFrames
 pub mod TableCalls
-pub mod TwoFunctions

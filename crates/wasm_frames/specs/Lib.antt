@@ -2,4 +2,3 @@ pub mod Callees
 pub mod Resting
 pub mod Standing
 pub mod Turns
-pub mod Tested

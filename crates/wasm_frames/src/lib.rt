@@ -12,6 +12,3 @@ pub use callees::{Callee, Entry, Runs};
 pub use calls::{call, call_through, with_sp};
 pub use returns::{finish, jump};
 pub use turns::Turn;
-
-#[cfg(test)]
-mod tests;

@@ -6,8 +6,6 @@ mod error;
 mod laws;
 mod reading;
 mod spelling;
-#[cfg(test)]
-mod tests;
 mod writing;
 
 pub use error::LebError;

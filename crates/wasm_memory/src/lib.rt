@@ -7,8 +7,6 @@ mod errors;
 mod fresh;
 mod memory;
 mod ranges;
-#[cfg(test)]
-mod tests;
 
 pub use errors::{OutOfBounds, StoreError};
 pub use memory::Memory;

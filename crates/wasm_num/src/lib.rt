@@ -8,10 +8,6 @@ mod evaluate;
 mod laws;
 mod operators;
 mod shifts;
-#[cfg(test)]
-mod tests_32;
-#[cfg(test)]
-mod tests_64;
 
 pub use evaluate::{binary, compare, convert, test, unary};
 pub use laws::{least_by_minus_one, results_below};

@@ -28,9 +28,6 @@ holds_drop [] us vs h = h
 holds_drop (t ∷ ts) us [] h = absurd h
 holds_drop (t ∷ ts) us (v ∷ vs) h = holds_drop ts us vs h.1
 
-pub holds_front : (ts us : List ValType) (vs : List ℕ) → Holds (ts ++ us) vs → length vs ≡ length (ts ++ us)
-holds_front ts us vs h = holds_length (ts ++ us) vs h
-
 same_some : {A : Type 0} (x y : A) → Some x ≡ Some y → x ≡ y
 same_some x y e = cc
 

@@ -3,7 +3,5 @@
 #![tactic(auto)]
 
 mod stack;
-#[cfg(test)]
-mod tests;
 
 pub use stack::Stack;

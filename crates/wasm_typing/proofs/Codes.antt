@@ -2,7 +2,7 @@
 use Rattle.std.proofs.Common.{◌≡◌, ◌+◌, ◌<◌, ℕ, Bool, true, false, List, [], ◌∷◌, ◌++◌, length, take, drop, get_or, suc, refl, sym, ap, subst, ◌∙◌, arith, append_assoc, length-append}
 use Rattle.std.specs.Prelude.{IsTrue, Option, Result, IfOk, ◌↔◌}
 use Rattle.std.proofs.lemmas.List.{append-nil, take_more, take-append-drop}
-use Rattle.std.proofs.Math.Seq.{drop-cons, take-length}
+use Rattle.std.proofs.Math.Seq.{drop-cons}
 use Rattle.wasm_ast.specs.declared.val_types.ValType.{ValType}
 use Rattle.wasm_ast.specs.declared.val_types.ValType.TheVariants.{I32}
 use Rattle.wasm_ast.specs.declared.trees.Seq.{Seq}
@@ -126,12 +126,6 @@ ends_here c labels code k i old new a lt e x m t =
     let f = front c labels (take k code ++ i ∷ []) (drop (suc k) code) [] a (subst (λ d. Types c labels d [] a) (same_code code k i lt e) t) in
     let w = longer c labels (take k code) i (take k code ++ i ∷ []) [] f.0 refl f.1 in
     (m.reached w.0 f.0 (x.reached [] w.0 refl w.1).1 w.2).0
-
-pub typed_by : (c : Context) (labels : List (List ValType)) (code : List Instr) (o : Operands) (a : List ValType) → Exactly c labels code o → Stand o a → Types c labels code [] a
-typed_by c labels code o a x h = let w = x.source refl a h in subst (λ b. Types c labels code b a) w.1 w.2
-
-pub exactly_whole : (c : Context) (labels : List (List ValType)) (code : List Instr) (k : ℕ) (o : Operands) → length code ≡ k → Exactly c labels (take k code) o → Exactly c labels code o
-exactly_whole c labels code k o e x = subst (λ d. Image (Types c labels d) None_ (Stand o) true) (ap (λ n. take n code) (sym e) ∙ take-length code) x
 
 -- an instruction that has no typing
 pub untyped_stepped : (s : Scope) (ls : List (Option ValType)) (i : Instr) (old new : Operands) (y : Layer) → layer i ≡ y → IsPlain y → ((b a : List ValType) → Plain (context_in s) (labels_of ls) y b a → ⊥) → Stepped s ls i old new false

@@ -100,12 +100,6 @@ leaves_both ts us P M Q r s =
     (λ b a e. (us ++ b, refl, e ∙ append_assoc ts us b))
     (image_then (PutsOn us) (PutsOn ts) P M Q true r s)
 
-pub takes_nothing : (P : List ValType → Type 0) → Image (Takes []) P P true
-takes_nothing P = record { reached = λ b a p e. (refl, subst P e p); source = λ h a q. (a, q, refl) }
-
-pub leaves_nothing : (P : List ValType → Type 0) → Image (PutsOn []) P P true
-leaves_nothing P = record { reached = λ b a p e. (refl, subst P (sym e) p); source = λ h a q. (a, q, refl) }
-
 pub take_step : (all : List ValType) (n : ℕ) (t : ValType) (P M Q : List ValType → Type 0) → n < length all → t ≡ get_or all n t → Image (Takes (take n all)) P M true → Image (Takes (t ∷ [])) M Q true
     → Image (Takes (take (n + 1) all)) P Q true
 take_step all n t P M Q lt e r s =
@@ -145,13 +139,6 @@ chooses_second P Q n = image_none Chooses Anything P Q (λ b a p w. absurd (n w.
 
 pub chooses_first : (P M Q : List ValType → Type 0) (second : Option ValType) → Splits P M second → NoTop M → Image Chooses P Q false
 chooses_first P M Q second s n = image_none Chooses Anything P Q (λ b a p w. absurd (n w.0 w.1.0 (s.parts w.0 (w.0 ∷ w.1.0) (subst P w.1.1 p)).1))
-
-pub chooses_none : (P M N Q : List ValType → Type 0) (first second : Option ValType) → Splits P M second → Splits M N first → ((t : ValType) → FitsKnown first t → FitsKnown second t → ⊥) → Image Chooses P Q false
-chooses_none P M N Q first second s r n =
-    image_none Chooses Anything P Q (λ b a p w.
-    let x = s.parts w.0 (w.0 ∷ w.1.0) (subst P w.1.1 p) in
-    let y = r.parts w.0 w.1.0 x.1 in
-    absurd (n w.0 y.0 x.0))
 
 chosen : (P M N Q : List ValType → Type 0) (first second known : Option ValType) → Splits P M second → Splits M N first → ((t : ValType) → FitsKnown known t ↔ (FitsKnown first t × FitsKnown second t)) → Splits Q N known
     → (Q [] → IsTrue false) → (a : List ValType) → Q a → (b : List ValType) × P b × Chooses b a

@@ -10,6 +10,3 @@ mod spaces;
 
 pub use bodies::is_typed;
 pub use spaces::{function_type, imported_type_of, memory_in, own_type_at, table_in};
-
-#[cfg(test)]
-mod tests;

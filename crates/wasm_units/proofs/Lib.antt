@@ -5,6 +5,5 @@ pub mod Moving
 pub mod Needs
 pub mod Opening
 pub mod PoppedFrames
-pub mod Spinning
 pub mod UnitOutcomes
 pub mod Takes

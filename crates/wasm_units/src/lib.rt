@@ -8,6 +8,3 @@ mod moves;
 mod units;
 
 pub use units::{step, unit};
-
-#[cfg(test)]
-mod tests;

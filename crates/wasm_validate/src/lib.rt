@@ -12,6 +12,3 @@ pub use hosts::host_call;
 pub use invalid::Invalid;
 pub use modules::{ValidModule, validate};
 pub use wasm_ast::{FloatPlace, HostName, SegmentPlace};
-
-#[cfg(test)]
-mod tests;

@@ -1,6 +1,6 @@
 use Rattle.std.proofs.Common.{refl}
 use Rattle.wasm_frames.proofs.Calling.{get_at}
-use Rattle.wasm_exec.proofs.Segments.{fits, one_laid, all_laid}
+use Rattle.wasm_exec.proofs.Segments.{fits, one_laid}
 use Rattle.wasm_exec.proofs.beginnings.table_at_first.Goals as goal
 
 pub lay-requires : goal.lay-requires

@@ -1,7 +1,6 @@
-use Rattle.std.proofs.Common.{◌≡◌, ◌+◌, ◌-◌, refl, ◌∙◌, arith}
+use Rattle.std.proofs.Common.{◌+◌, ◌-◌, refl, ◌∙◌}
 use Rattle.wasm_semantics.specs.Threads.{Trapped, Done}
-use Rattle.wasm_semantics.specs.Units.{units_from}
-use Rattle.wasm_frames.specs.Standing.{held, store_of, thread_in}
+use Rattle.wasm_frames.specs.Standing.{held, store_of}
 use Rattle.wasm_exec.specs.Rounds.{ended}
 use Rattle.wasm_exec.proofs.Courses.{stops, goes_next, asks}
 use Rattle.wasm_exec.proofs.rounds.go.Goals as goal

@@ -1,9 +1,9 @@
-use Rattle.std.proofs.Common.{◌≡◌, ◌+◌, ◌-◌, ◌≤◌, ◌∷◌, length, refl, sym, ap, ◌∙◌, arith}
+use Rattle.std.proofs.Common.{◌+◌, ◌-◌, ◌∷◌, length, refl, ap, ◌∙◌, arith}
 use Rattle.wasm_ast.specs.Hosts.{host_params}
 use Rattle.wasm_semantics.specs.Laws.{in_four_places}
 use Rattle.wasm_semantics.specs.Units.{units, units_from}
 use Rattle.wasm_data.specs.Marked.{locals_in}
-use Rattle.wasm_frames.specs.Standing.{held, store_of, thread_in}
+use Rattle.wasm_frames.specs.Standing.{held, store_of}
 use Rattle.wasm_exec.specs.declared.stops.Stop.TheVariants as stop
 use Rattle.wasm_exec.specs.Resting.{thread_at_rest}
 use Rattle.wasm_exec.proofs.Rests.{begins, grows, left_on, cold_on, warmed, warmed_in, ends_spent, ends_done, ends_trapped, stopped, ends_asked, by_parts, out_of_memory}

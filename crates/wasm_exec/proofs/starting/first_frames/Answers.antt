@@ -1,4 +1,4 @@
-use Rattle.std.proofs.Common.{◌+◌, ◌≤◌, ◌∙◌, ap, arith}
+use Rattle.std.proofs.Common.{arith}
 use Rattle.wasm_exec.proofs.Entries.{handle_enters, start_enters, one_first, two_first}
 use Rattle.wasm_exec.proofs.starting.first_frames.Goals as goal
 

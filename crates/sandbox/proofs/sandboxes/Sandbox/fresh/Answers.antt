@@ -1,4 +1,4 @@
-use Rattle.std.proofs.Common.{◌≤◌, sym, ap, ◌∙◌, arith}
+use Rattle.std.proofs.Common.{ap, ◌∙◌, arith}
 use Rattle.wasm_ast.specs.Spaces.{first_pages}
 use Rattle.sandbox.specs.Threads.{thread_of, IsReady}
 use Rattle.sandbox.proofs.sandboxes.Sandbox.fresh.Goals as goal

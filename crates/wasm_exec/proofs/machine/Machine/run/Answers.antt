@@ -1,5 +1,4 @@
-use Rattle.std.proofs.Common.{sym, ap, ◌∙◌}
-use Rattle.wasm_ast.specs.Spaces.{page_limit}
+use Rattle.std.proofs.Common.{sym, ◌∙◌}
 use Rattle.wasm_exec.specs.Machines.{store_in, thread_of}
 use Rattle.wasm_exec.proofs.Machines.{stops_at, stops_in}
 use Rattle.wasm_exec.proofs.machine.Machine.run.Goals as goal
