@@ -12,8 +12,6 @@ mod fault;
 mod line;
 mod next;
 mod reader;
-#[cfg(test)]
-mod tests;
 mod words;
 
 pub use entry::{Entry, Event};

@@ -3,8 +3,6 @@
 
 mod copies;
 mod laws;
-#[cfg(test)]
-mod tests;
 mod view;
 
 pub use laws::{

@@ -3,10 +3,13 @@
 mod calls;
 mod exercise;
 mod failing;
+mod guests;
 mod hosts;
 mod lines;
+mod longer;
 mod modules;
 mod refusals;
+mod shop;
 mod stores;
 mod words;
 mod worked;

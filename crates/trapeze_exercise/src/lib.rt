@@ -5,8 +5,6 @@ mod bytes;
 mod events;
 mod modules;
 mod policy;
-#[cfg(test)]
-mod tests;
 
 pub use events::generate;
 pub use modules::{Modules, built_in_modules};

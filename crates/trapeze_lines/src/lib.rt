@@ -7,8 +7,6 @@ mod line;
 mod lines;
 mod outcome;
 mod read;
-#[cfg(test)]
-mod tests;
 mod words;
 mod write;
 

@@ -1,9 +1,9 @@
 //! Files and outputs that fail, at each of their calls in turn.
 
-use super::calls::{CHECK, FOUR, RUN, TRACE, VIEW_LOW, called, ends, held};
+use super::calls::{FOUR, Plan, Row, SOUND, ends};
+use super::longer::{idle_lines, repeated};
 use std::alloc::Global;
 use std::test::Fail;
-use trapeze_io::{MemFiles, MemSink};
 
 /// One label, its client and one function.
 const ONE: &str = "labels = ['low']
@@ -15,176 +15,168 @@ functions = { hello = 'echo.wasm' }
 const EVENTS: &str =
     "ask low carol hello r1 x6869\nturn low 2\nput low x6b x01\nturn low\n# the end";
 
-/// What is written of these events before the put.
-const REPLY: &str = "reply low carol r1 x6869\nturn low 1 hello r1 ended\nidle low 2\n";
-
-/// What is written of all these events.
-const ALL: &str = "reply low carol r1 x6869\nturn low 1 hello r1 ended\nidle low 2\nidle low 3\n";
-
-/// The same, and the facet in the end.
+/// What is written of all these events, and the facet in the end.
 const WHOLE: &str =
     "reply low carol r1 x6869\nturn low 1 hello r1 ended\nidle low 2\nidle low 3\nfacet low x6b x01\n";
 
-/// A policy of 16 bytes, and 100 lines of 9 bytes, of which a read gives 9 bytes at most.
-fn turns(alloc: Global) -> Result<MemFiles, Fail> {
-    let mut events = String::new(alloc);
-    for _ in 0..100 {
-        events.push_str("turn low\n")?;
-    }
-    let mut files = held(alloc, "labels = ['low']", events.as_str())?;
-    files.step(9);
-    Ok(files)
+/// What is written of the ask and its turn, before the put, and before the end of the file.
+const ANSWERED: &str = "reply low carol r1 x6869\nturn low 1 hello r1 ended\n";
+
+const REPLY: &str = "reply low carol r1 x6869\nturn low 1 hello r1 ended\nidle low 2\n";
+
+const ALL: &str = "reply low carol r1 x6869\nturn low 1 hello r1 ended\nidle low 2\nidle low 3\n";
+
+const TRACED: &str = "start low low hello r1\nanswer low carol r1 x6869\nreply low carol r1 x6869\n\
+    turn low 1 hello r1 ended\nidle low 2\nwrite low x6b x01\nidle low 3\nfacet low x6b x01\n";
+
+/// The events of the one label, with no fault.
+const PLAYED: Row = Row {
+    words: "run|p.toml|e.txt",
+    policy: (ONE, ""),
+    events: EVENTS,
+    more: ("more", b""),
+    code: 0,
+    text: WHOLE,
+    error: "",
+};
+
+const EVENTS_UNREAD: &str = "cannot read e.txt\n";
+
+const UNWRITTEN: &str = "cannot write output\n";
+
+/// Whether the turns leave this text where this call fails and a read gives 9 bytes at most: the policy is opened by call 1
+/// and read by calls 2 to 4, the events are opened by call 5, and call 6 reads their first line.
+fn turns_leave<'a>(alloc: Global, events: &'a str, text: &'a str, call: u32) -> Result<bool, Fail> {
+    let (code, error) = match call {
+        0..=4 => (5, "cannot read p.toml\n"),
+        5..=106 => (5, EVENTS_UNREAD),
+        _ => (0, ""),
+    };
+    let row = Row {
+        policy: ("labels = ['low']", ""),
+        events,
+        code,
+        text,
+        error,
+        ..PLAYED
+    };
+    ends(alloc, &row, [(call, 9), SOUND, SOUND])
 }
 
 #[test]
 fn a_failed_read_leaves_the_text_of_the_lines_given(rt: HostRuntime) -> Result<(), Fail> {
-    let alloc = rt.alloc();
-    // The policy is opened by call 1 and read by calls 2 to 4, the events are opened by call 5, and read 1 of them is call 6.
-    let mut text = String::new(alloc);
-    for call in 1_u32..107 {
-        if call > 6 {
-            let number = call - 6;
-            let line = format!(in alloc; "idle low {number}\n")?;
-            text.push_str(line.as_str())?;
-        }
-        let mut files = turns(alloc)?;
-        files.fail_at(call)?;
-        let error = if call < 5 {
-            "cannot read p.toml\n"
-        } else {
-            "cannot read e.txt\n"
-        };
-        assert!(rt;
-            ends(alloc, RUN, &mut files, 5, text.as_str(), error)?,
-            "call {call}"
-        );
+    let events = repeated(rt.alloc(), "turn low\n", 100)?;
+    for call in 1_u32..108 {
+        let text = idle_lines(rt.alloc(), "low", call.saturating_sub(6).min(100))?;
+        let (events, text) = (events.as_str(), text.as_str());
+        assert!(rt; turns_leave(rt.alloc(), events, text, call)?, "call {call}");
     }
-    let mut files = turns(alloc)?;
-    files.fail_at(107)?;
-    assert!(rt; ends(alloc, RUN, &mut files, 0, text.as_str(), "")?);
     Ok(())
 }
 
-/// Files of the one label and the events, which fail at this call.
-fn failing_at(alloc: Global, call: u32) -> Result<MemFiles, Fail> {
-    let mut files = held(alloc, ONE, EVENTS)?;
-    files.fail_at(call)?;
-    Ok(files)
-}
+/// The most bytes of a read, the first and the last call that fails, the status, the error line and the text. By single bytes
+/// the policy's 97 are read by calls 1 to 99, with its opening and its end, the module's 99 by calls 100 to 200, and call 202
+/// reads the first of the events, which have lines of 29, 11, 16, 9 and 9 bytes.
+const READS: &[(u32, u32, u32, u8, &str, &str)] = &[
+    (1, 202, 241, 5, EVENTS_UNREAD, ""),
+    (1, 242, 266, 5, EVENTS_UNREAD, REPLY),
+    (1, 267, 276, 5, EVENTS_UNREAD, ALL),
+    (1, 277, 277, 0, "", WHOLE),
+    // Each file whole by one read.
+    (u32::MAX, 1, 3, 5, "cannot read p.toml\n", ""),
+    (u32::MAX, 4, 6, 5, "cannot read echo.wasm\n", ""),
+    (u32::MAX, 7, 8, 5, EVENTS_UNREAD, ""),
+    (u32::MAX, 9, 9, 5, EVENTS_UNREAD, ALL),
+    (u32::MAX, 10, 10, 0, "", WHOLE),
+];
 
 #[test]
-fn a_failed_read_in_mid_line_leaves_the_text_of_the_whole_lines(
+fn a_failed_read_leaves_the_text_of_the_whole_lines_and_names_its_file(
     rt: HostRuntime,
 ) -> Result<(), Fail> {
-    let alloc = rt.alloc();
-    // A file is opened by one call, each of its bytes is read by one, and one finds its end. The policy has 97 bytes and the
-    // module 99. Then the events are opened.
-    let mut call = 97 + 2 + 99 + 2 + 1_u32;
-    for (line, text) in [
-        ("ask low carol hello r1 x6869\n", ""),
-        ("turn low 2\n", ""),
-        ("put low x6b x01\n", REPLY),
-        ("turn low\n", REPLY),
-        ("# the end", ALL),
-        // The read that finds the end of the file.
-        ("-", ALL),
-    ] {
-        for _byte in 0..line.len() {
-            call = call.saturating_add(1);
-            let mut files = failing_at(alloc, call)?;
-            files.step(1);
-            let error = "cannot read e.txt\n";
+    for (step, first, last, code, error, text) in READS {
+        let row = Row {
+            code: *code,
+            text,
+            error,
+            ..PLAYED
+        };
+        for call in *first..=*last {
             assert!(rt;
-                ends(alloc, RUN, &mut files, 5, text, error)?,
+                ends(rt.alloc(), &row, [(call, *step), SOUND, SOUND])?,
                 "call {call}"
             );
         }
     }
-    let mut files = failing_at(alloc, call.saturating_add(1))?;
-    files.step(1);
-    assert!(rt; ends(alloc, RUN, &mut files, 0, WHOLE, "")?);
     Ok(())
 }
 
-#[test]
-fn a_failed_call_of_each_file_names_it(rt: HostRuntime) -> Result<(), Fail> {
-    let alloc = rt.alloc();
-    // Each file is opened by one call, given whole by the next, and found to end by the third.
-    let mut call = 0_u32;
-    for (error, opened, given, ended) in [
-        ("cannot read p.toml\n", "", "", ""),
-        ("cannot read echo.wasm\n", "", "", ""),
-        ("cannot read e.txt\n", "", "", ALL),
-    ] {
-        for text in [opened, given, ended] {
-            call = call.saturating_add(1);
-            let mut files = failing_at(alloc, call)?;
-            assert!(rt;
-                ends(alloc, RUN, &mut files, 5, text, error)?,
-                "call {call}"
-            );
-        }
-    }
-    let mut files = failing_at(alloc, 10)?;
-    assert!(rt; ends(alloc, RUN, &mut files, 0, WHOLE, "")?);
-    Ok(())
-}
+/// What a call writes whose output takes a byte at a time.
+const WRITES: &[(&str, &str)] = &[
+    ("run|p.toml|e.txt", WHOLE),
+    ("view|p.toml|e.txt|low", WHOLE),
+    ("trace|p.toml|e.txt", TRACED),
+    (
+        "check|p.toml",
+        "ok: 1 labels, 1 functions, 0 channels, 1 clients\n",
+    ),
+];
 
-/// Whether a call with these words whose output takes a byte at a time, and fails at this call, ends with the status and the text.
-fn stops(alloc: Global, words: &[&str], call: u32, code: u8, text: &[u8]) -> Result<bool, Fail> {
-    let mut files = held(alloc, ONE, EVENTS)?;
-    let mut out = MemSink::new(alloc);
-    let mut err = MemSink::new(alloc);
-    out.step(1);
-    out.fail_at(call)?;
-    let ended = called(alloc, words, &mut files, &mut out, &mut err)?;
-    Ok(ended == code && out.written() == text)
+/// Whether a call with these words whose output fails at the byte with this number, from 1, has the text before it.
+fn stops<'a>(alloc: Global, words: &'a str, text: &'a str, byte: u32) -> Result<bool, Fail> {
+    let whole = text.len() < byte as usize;
+    let Some(text) = text.get(..byte as usize - 1) else {
+        return Ok(false);
+    };
+    let row = Row {
+        words,
+        code: if whole { 0 } else { 6 },
+        text,
+        error: if whole { "" } else { UNWRITTEN },
+        ..PLAYED
+    };
+    ends(alloc, &row, [SOUND, (byte, 1), SOUND])
 }
 
 #[test]
 fn an_output_that_fails_has_a_prefix_of_the_text(rt: HostRuntime) -> Result<(), Fail> {
-    let alloc = rt.alloc();
-    for (words, text) in [
-        (RUN, WHOLE),
-        (VIEW_LOW, WHOLE),
-        (
-            TRACE,
-            "start low low hello r1\nanswer low carol r1 x6869\nreply low carol r1 x6869\n\
-            turn low 1 hello r1 ended\nidle low 2\nwrite low x6b x01\nidle low 3\nfacet low x6b x01\n",
-        ),
-        (CHECK, "ok: 1 labels, 1 functions, 0 channels, 1 clients\n"),
-    ] {
-        let mut call = 1_u32;
-        for written in 0..text.len() {
-            let (prefix, _) = text.as_bytes().split_at(written);
-            assert!(rt; stops(alloc, words, call, 6, prefix)?, "call {call}");
-            call = call.saturating_add(1);
+    for (words, text) in WRITES {
+        for byte in 0..=text.len() as u32 {
+            assert!(rt; stops(rt.alloc(), words, text, byte + 1)?, "byte {byte}");
         }
-        assert!(rt; stops(alloc, words, call, 0, text.as_bytes())?);
     }
     Ok(())
 }
 
-#[test]
-fn the_lines_of_an_event_are_written_before_the_next_is_played(
-    rt: HostRuntime,
-) -> Result<(), Fail> {
-    let alloc = rt.alloc();
+/// The plans of the output and of the error line, the events of the four labels, the status, the text and the error line.
+const SINKS: &[(Plan, Plan, &str, u8, &str, &str)] = &[
     // One read gives the whole file, and one write takes the lines of one event.
-    for (call, text) in [
-        (1, ""),
-        (2, "reply low carol r1 x6869\nturn low 1 hello r1 ended\n"),
-        (3, REPLY),
-        (4, ALL),
-    ] {
-        let mut files = held(alloc, FOUR, EVENTS)?;
-        let mut out = MemSink::new(alloc);
-        let mut err = MemSink::new(alloc);
-        out.fail_at(call)?;
-        let ended = called(alloc, RUN, &mut files, &mut out, &mut err)?;
-        assert_eq!(rt; ended, 6);
-        assert!(rt; out.written() == text.as_bytes(), "call {call}");
-        assert!(rt; err.written() == b"cannot write output\n".as_slice());
+    ((1, u32::MAX), SOUND, EVENTS, 6, "", UNWRITTEN),
+    ((2, u32::MAX), SOUND, EVENTS, 6, ANSWERED, UNWRITTEN),
+    ((3, u32::MAX), SOUND, EVENTS, 6, REPLY, UNWRITTEN),
+    ((4, u32::MAX), SOUND, EVENTS, 6, ALL, UNWRITTEN),
+    // An error line that fails changes no status.
+    (SOUND, (1, 5), "turn low\n", 0, "idle low 1\n", ""),
+    (SOUND, (1, 5), "walk\n", 4, "", ""),
+    (SOUND, (2, 5), "walk\n", 4, "", "event"),
+    (SOUND, (3, 5), "walk\n", 4, "", "events lin"),
+];
+
+#[test]
+fn a_sink_that_fails_has_what_was_written_before(rt: HostRuntime) -> Result<(), Fail> {
+    for (out, err, events, code, text, error) in SINKS {
+        let row = Row {
+            policy: (FOUR, ""),
+            events,
+            code: *code,
+            text,
+            error,
+            ..PLAYED
+        };
+        assert!(rt;
+            ends(rt.alloc(), &row, [SOUND, *out, *err])?,
+            "{text}{error}"
+        );
     }
     Ok(())
 }

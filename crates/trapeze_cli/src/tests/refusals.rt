@@ -1,289 +1,242 @@
 //! What is refused, and what comes first where several things are wrong.
 
-use super::calls::{CHECK, FOUR, RUN, VIEW_LOW, called, ends, held, held_with};
-use super::modules::{ECHO, FLOAT, ILL_TYPED, SPIN};
-use std::alloc::Global;
+use super::calls::{FOUR, Row, SOUND, all_end, ends};
+use super::longer::filled;
 use std::test::Fail;
-use trapeze_io::{MemFiles, MemSink};
 
 const USAGE: &str =
     "usage: trapeze run POLICY EVENTS | trace POLICY EVENTS | view POLICY EVENTS LABEL | check POLICY | exercise N\n";
 
-/// Words of no form.
-const OTHER_FORMS: &[&[&str]] = &[
-    &[],
-    &["run"],
-    &["run", "p.toml"],
-    &["run", "p.toml", "e.txt", "low"],
-    &["Run", "p.toml", "e.txt"],
-    &["trace", "p.toml"],
-    &["view", "p.toml", "e.txt"],
-    &["view", "p.toml", "e.txt", "low", "low"],
-    &["check"],
-    &["check", "p.toml", "e.txt"],
-    &["walk", "p.toml", "e.txt"],
-    &["exercise"],
-    &["exercise", ""],
-    &["exercise", "x"],
-    &["exercise", "0x1"],
-    &["exercise", "-1"],
-    &["exercise", "+1"],
-    &["exercise", "1 "],
-    &["exercise", "18446744073709551616"],
-    &["exercise", "000000000000000000007"],
-    &["exercise", "1", "2"],
-    &["Exercise", "1"],
+/// Words of no form, between bars.
+const OTHER_FORMS: &[&str] = &[
+    "",
+    "run",
+    "run|p.toml",
+    "run|p.toml|e.txt|low",
+    "Run|p.toml|e.txt",
+    "trace|p.toml",
+    "view|p.toml|e.txt",
+    "view|p.toml|e.txt|low|low",
+    "check",
+    "check|p.toml|e.txt",
+    "walk|p.toml|e.txt",
+    "exercise",
+    "exercise|",
+    "exercise|x",
+    "exercise|0x1",
+    "exercise|-1",
+    "exercise|+1",
+    "exercise|1 ",
+    "exercise|18446744073709551616",
+    "exercise|000000000000000000007",
+    "exercise|1|2",
+    "Exercise|1",
 ];
-
-/// One label and three functions.
-const THREE: &str = "labels = ['low']\nfunctions = { a = 'a.wasm', b = 'b.wasm', c = 'c.wasm' }\n";
 
 #[test]
 fn words_of_another_form_give_the_usage_line(rt: HostRuntime) -> Result<(), Fail> {
-    let alloc = rt.alloc();
-    let mut files = held(alloc, FOUR, "turn low\n")?;
     for words in OTHER_FORMS {
-        assert!(rt; ends(alloc, words, &mut files, 1, "", USAGE)?);
+        let row = Row {
+            words,
+            policy: (FOUR, ""),
+            events: "turn low\n",
+            more: ("more", b""),
+            code: 1,
+            text: "",
+            error: USAGE,
+        };
+        assert!(rt; ends(rt.alloc(), &row, [SOUND; 3])?, "{words}");
     }
     Ok(())
 }
 
-/// Holds a file, if there is one.
-fn add(files: &mut MemFiles, name: &str, bytes: Option<&[u8]>) -> Result<(), Fail> {
-    if let Some(bytes) = bytes {
-        files.hold(name, bytes)?;
-    }
-    Ok(())
-}
+/// The first input that is refused decides, with what was written before it.
+const REFUSED: &[&str] = &[
+    // The policy first: it is not there, or refused before any module.
+    "5 run|gone|e.txt
+/
+///cannot read gone
+",
+    "2 run|p.toml|gone
+/labels///policy: toml
+",
+    // Then each module wholly before the next.
+    "5 run|p.toml|e.txt
+/labels = ['low']
+functions = { a = 'echo.wasm', b = 'gone.wasm', c = 'other.wasm' }
+/turn low
+//cannot read gone.wasm
+",
+    "3 run|p.toml|gone
+/labels = ['low']
+functions = { a = 'echo.wasm', b = 'float.wasm', c = 'gone.wasm' }
+///module b: float body 0
+",
+    "3 run|p.toml|gone
+/labels = ['low']
+functions = { a = 'other.wasm', b = 'ill.wasm', c = 'gone.wasm' }
+///module a: malformed 0
+",
+    "3 run|p.toml|e.txt
+/labels = ['low']
+functions = { a = 'echo.wasm', b = 'spin.wasm', c = 'ill.wasm' }
+/walk
+//module c: ill-typed 0
+",
+    // Then the events.
+    "5 run|p.toml|gone
+/labels = ['low']
+functions = { a = 'echo.wasm', b = 'spin.wasm', c = 'echo.wasm' }
+///cannot read gone
+",
+    "4 run|p.toml|e.txt
+/labels = ['low']
+functions = { a = 'echo.wasm', b = 'spin.wasm', c = 'echo.wasm' }
+/walk
+//events line 1: word
+",
+    // A check refuses the same policies and modules.
+    "2 check|p.toml
+/labels = []///policy: lattice no-labels
+",
+    "5 check|p.toml
+/labels = ['low']
+functions = { a = 'echo.wasm', b = 'gone.wasm', c = 'gone.wasm' }
+///cannot read gone.wasm
+",
+    "3 check|p.toml
+/labels = ['low']
+functions = { a = 'echo.wasm', b = 'float.wasm', c = 'gone.wasm' }
+///module b: float body 0
+",
+    "3 check|p.toml
+/labels = ['low']
+functions = { a = 'echo.wasm', b = 'cut.wasm', c = 'gone.wasm' }
+///module b: malformed 82
+",
+    // An unknown label comes behind the policy and before the modules.
+    "1 view|p.toml|gone|low
+/labels = ['high']///usage: trapeze run POLICY EVENTS | trace POLICY EVENTS | view POLICY EVENTS LABEL | check POLICY | exercise N
+",
+    "1 view|p.toml|gone|low
+/labels = ['high']
+functions = { a = 'gone.wasm' }///usage: trapeze run POLICY EVENTS | trace POLICY EVENTS | view POLICY EVENTS LABEL | check POLICY | exercise N
+",
+    "5 view|p.toml|gone|low
+/labels = ['low']
+functions = { a = 'gone.wasm' }///cannot read gone.wasm
+",
+    "2 view|p.toml|gone|low
+/labels = ['high', 'high']///policy: lattice repeated 1
+",
+    // Before a bad line the events are played, without their facets.
+    "4 run|p.toml|e.txt
+/
+/walk low
+//events line 1: word
+",
+    "4 run|p.toml|e.txt
+/
+/put low x6b x01
+turn low
+put low x6g x01
+/idle low 1
+/events line 3: bad-hex
+",
+    "4 run|p.toml|e.txt
+/
+/turn low
 
-/// A policy, the modules of three functions and events, as far as there are files of them.
-fn files_of(
-    alloc: Global,
-    policy: Option<&str>,
-    modules: [Option<&[u8]>; 3],
-    events: Option<&str>,
-) -> Result<MemFiles, Fail> {
-    let mut files = MemFiles::new(alloc);
-    let [a, b, c] = modules;
-    add(&mut files, "p.toml", policy.map(|text| text.as_bytes()))?;
-    add(&mut files, "a.wasm", a)?;
-    add(&mut files, "b.wasm", b)?;
-    add(&mut files, "c.wasm", c)?;
-    add(&mut files, "e.txt", events.map(|text| text.as_bytes()))?;
-    Ok(files)
-}
+# a comment
+turn lox
+turn low
+/idle low 1
+/events line 4: unknown-label
+",
+    "4 run|p.toml|e.txt
+/
+/turn bob 1000001
+//events line 1: bad-number
+",
+    "4 run|p.toml|e.txt
+/
+/ask low carol hello r1 x6869
+turn low
+turn low 1 1/reply low carol r1 x6869
+turn low 1 hello r1 ended
+/events line 3: count
+",
+    "4 run|p.toml|e.txt
+/
+/turn low 2
+ask low dave hello r1 x
+/idle low 1
+idle low 2
+/events line 2: unknown-client
+",
+    "4 run|p.toml|e.txt
+/
+/ask low carol hullo r1 x
+//events line 1: unknown-function
+",
+    "4 run|p.toml|e.txt
+/
+/ask low carol hello Ann x
+//events line 1: bad-id
+",
+    // A policy's fault has its place.
+    "2 run|p.toml|e.txt
+/[limits.low]
+queue = 0
+///policy: out-of-range limits 1 4
+",
+    "2 run|p.toml|e.txt
+/[clients.zed]
+///policy: missing clients 4 1
+",
+    "2 run|p.toml|e.txt
+/[channels.mail]
+label = 'top'
+///policy: missing channels 1 2
+",
+    "2 run|p.toml|e.txt
+/[gates.g]
+source = 'up'
+///policy: unknown-label gates 1 1
+",
+    "2 run|p.toml|e.txt
+/[more]
+///policy: extra root 5 0
+",
+];
 
 #[test]
 fn the_first_input_that_is_refused_decides(rt: HostRuntime) -> Result<(), Fail> {
-    let alloc = rt.alloc();
-    let (echo, spin) = (Some(ECHO), Some(SPIN));
-    let (float, ill, other) = (Some(FLOAT), Some(ILL_TYPED), Some(b"other".as_slice()));
-    for (policy, modules, events, code, error) in [
-        (None, [None; 3], None, 5, "cannot read p.toml\n"),
-        (Some("labels"), [None; 3], None, 2, "policy: toml\n"),
-        (
-            Some(THREE),
-            [echo, None, other],
-            Some("turn low\n"),
-            5,
-            "cannot read b.wasm\n",
-        ),
-        (
-            Some(THREE),
-            [echo, float, None],
-            None,
-            3,
-            "module b: float body 0\n",
-        ),
-        (
-            Some(THREE),
-            [other, ill, None],
-            None,
-            3,
-            "module a: malformed 0\n",
-        ),
-        (
-            Some(THREE),
-            [echo, spin, ill],
-            Some("walk\n"),
-            3,
-            "module c: ill-typed 0\n",
-        ),
-        (
-            Some(THREE),
-            [echo, spin, echo],
-            None,
-            5,
-            "cannot read e.txt\n",
-        ),
-        (
-            Some(THREE),
-            [echo, spin, echo],
-            Some("walk\n"),
-            4,
-            "events line 1: word\n",
-        ),
-    ] {
-        let mut files = files_of(alloc, policy, modules, events)?;
-        assert!(rt; ends(alloc, RUN, &mut files, code, "", error)?, "{error}");
-    }
-    Ok(())
+    all_end(&rt, rt.alloc(), REFUSED)
 }
 
-#[test]
-fn a_check_refuses_the_same_policies_and_modules(rt: HostRuntime) -> Result<(), Fail> {
-    let alloc = rt.alloc();
-    for (policy, second, code, error) in [
-        ("labels = []", None, 2, "policy: lattice no-labels\n"),
-        (THREE, None, 5, "cannot read b.wasm\n"),
-        (THREE, Some(FLOAT), 3, "module b: float body 0\n"),
-        (THREE, Some(&ECHO[..98]), 3, "module b: malformed 82\n"),
-    ] {
-        let modules = [Some(ECHO), second, None];
-        let mut files = files_of(alloc, Some(policy), modules, None)?;
-        assert!(rt; ends(alloc, CHECK, &mut files, code, "", error)?, "{error}");
-    }
-    Ok(())
-}
-
-#[test]
-fn an_unknown_label_comes_behind_the_policy_and_before_the_modules(
-    rt: HostRuntime,
-) -> Result<(), Fail> {
-    let alloc = rt.alloc();
-    for (policy, code, error) in [
-        ("labels = ['high']", 1, USAGE),
-        ("labels = ['high']\nfunctions = { a = 'a.wasm' }", 1, USAGE),
-        (
-            "labels = ['low']\nfunctions = { a = 'a.wasm' }",
-            5,
-            "cannot read a.wasm\n",
-        ),
-        (
-            "labels = ['high', 'high']",
-            2,
-            "policy: lattice repeated 1\n",
-        ),
-    ] {
-        let mut files = files_of(alloc, Some(policy), [None; 3], None)?;
-        assert!(rt;
-            ends(alloc, VIEW_LOW, &mut files, code, "", error)?,
-            "{error}"
-        );
-    }
-    Ok(())
-}
-
-#[test]
-fn before_a_bad_line_the_events_are_played_without_their_facets(
-    rt: HostRuntime,
-) -> Result<(), Fail> {
-    let alloc = rt.alloc();
-    for (events, text, error) in [
-        ("walk low\n", "", "events line 1: word\n"),
-        (
-            "put low x6b x01\nturn low\nput low x6g x01\n",
-            "idle low 1\n",
-            "events line 3: bad-hex\n",
-        ),
-        (
-            "turn low\n\n# a comment\nturn lox\nturn low\n",
-            "idle low 1\n",
-            "events line 4: unknown-label\n",
-        ),
-        ("turn bob 1000001\n", "", "events line 1: bad-number\n"),
-        (
-            "ask low carol hello r1 x6869\nturn low\nturn low 1 1",
-            "reply low carol r1 x6869\nturn low 1 hello r1 ended\n",
-            "events line 3: count\n",
-        ),
-        (
-            "turn low 2\nask low dave hello r1 x\n",
-            "idle low 1\nidle low 2\n",
-            "events line 2: unknown-client\n",
-        ),
-        (
-            "ask low carol hullo r1 x\n",
-            "",
-            "events line 1: unknown-function\n",
-        ),
-        ("ask low carol hello Ann x\n", "", "events line 1: bad-id\n"),
-    ] {
-        let mut files = held(alloc, FOUR, events)?;
-        assert!(rt; ends(alloc, RUN, &mut files, 4, text, error)?, "{events}");
-    }
-    Ok(())
-}
-
-#[test]
-fn a_policy_with_a_fault_is_refused_with_its_place(rt: HostRuntime) -> Result<(), Fail> {
-    let alloc = rt.alloc();
-    for (part, error) in [
-        (
-            "[limits.low]\nqueue = 0\n",
-            "policy: out-of-range limits 1 4\n",
-        ),
-        ("[clients.zed]\n", "policy: missing clients 4 1\n"),
-        (
-            "[channels.mail]\nlabel = 'top'\n",
-            "policy: missing channels 1 2\n",
-        ),
-        (
-            "[gates.g]\nsource = 'up'\n",
-            "policy: unknown-label gates 1 1\n",
-        ),
-        ("[more]\n", "policy: extra root 5 0\n"),
-    ] {
-        let mut files = held_with(alloc, &[part], "")?;
-        assert!(rt; ends(alloc, RUN, &mut files, 2, "", error)?, "{error}");
-    }
-    Ok(())
-}
-
-/// Bytes that are all the same.
-fn bytes_of(alloc: Global, byte: u8, count: usize) -> Result<Vec<u8>, Fail> {
-    Ok(vec![in alloc; byte; count]?)
-}
+/// A file of so many bytes, and how the call ends.
+const LONG: &[(&str, u8, usize, u8, &str)] = &[
+    ("p.toml", b'#', 1_048_576, 2, "policy: missing labels 0 0\n"),
+    ("p.toml", b'#', 1_048_577, 8, "too long: p.toml\n"),
+    ("echo.wasm", 0, 4_194_304, 3, "module hello: malformed 0\n"),
+    ("echo.wasm", 0, 4_194_305, 8, "too long: echo.wasm\n"),
+];
 
 #[test]
 fn a_file_of_one_byte_past_its_limit_is_too_long(rt: HostRuntime) -> Result<(), Fail> {
-    let alloc = rt.alloc();
-    for (count, code, error) in [
-        (1_048_576, 2, "policy: missing labels 0 0\n"),
-        (1_048_577, 8, "too long: p.toml\n"),
-    ] {
-        let mut files = MemFiles::new(alloc);
-        files.hold("p.toml", bytes_of(alloc, b'#', count)?.as_slice())?;
-        assert!(rt; ends(alloc, RUN, &mut files, code, "", error)?, "{error}");
-    }
-    for (count, code, error) in [
-        (4_194_304, 3, "module hello: malformed 0\n"),
-        (4_194_305, 8, "too long: echo.wasm\n"),
-    ] {
-        let mut files = held(alloc, FOUR, "")?;
-        files.hold("echo.wasm", bytes_of(alloc, 0, count)?.as_slice())?;
-        assert!(rt; ends(alloc, RUN, &mut files, code, "", error)?, "{error}");
-    }
-    Ok(())
-}
-
-#[test]
-fn an_error_line_that_fails_changes_no_status(rt: HostRuntime) -> Result<(), Fail> {
-    let alloc = rt.alloc();
-    for (events, failing, code, error) in [
-        ("turn low\n", 1, 0, ""),
-        ("walk\n", 1, 4, ""),
-        ("walk\n", 2, 4, "event"),
-        ("walk\n", 3, 4, "events lin"),
-    ] {
-        let mut files = held(alloc, FOUR, events)?;
-        let mut out = MemSink::new(alloc);
-        let mut err = MemSink::new(alloc);
-        err.step(5);
-        err.fail_at(failing)?;
-        let ended = called(alloc, RUN, &mut files, &mut out, &mut err)?;
-        assert_eq!(rt; ended, code);
-        assert!(rt; err.written() == error.as_bytes(), "{error}");
+    for (name, byte, count, code, error) in LONG {
+        let bytes = filled(rt.alloc(), *byte, *count, b"")?;
+        let row = Row {
+            words: "run|p.toml|e.txt",
+            policy: (FOUR, ""),
+            events: "",
+            more: (name, bytes.as_slice()),
+            code: *code,
+            text: "",
+            error,
+        };
+        assert!(rt; ends(rt.alloc(), &row, [SOUND; 3])?, "{error}");
     }
     Ok(())
 }

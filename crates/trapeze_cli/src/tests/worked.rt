@@ -1,325 +1,462 @@
 //! Worked cases: what functions under four labels write.
 
-use super::calls::{
-    Case, FOUR, MAIL, RUN, TRACE, VIEW_ALICE, VIEW_LOW, ends, held, write_their_texts,
-};
-use super::modules::{BUILT, FILL};
+use super::calls::all_end;
 use std::test::Fail;
 
-/// The channel, at the lowest label.
-const LOW_MAIL: &str = "[channels]\nmail = { label = 'low', function = 'hello' }\n";
-
-/// One more function.
-const GIVING: &str = "give = 'give.wasm'\n";
-
-/// A gate from alice to low that lets one byte through.
-const GATE: &str = "[gates.g]
+/// Each a call that is done.
+const WORKED: &[&str] = &[
+    // An ask and a turn: a reply, and the end.
+    "0 run|p.toml|e.txt
+/[channels]
+mail = { label = 'top', function = 'hello' }
+/ask low carol hello r1 x6869
+turn low
+/reply low carol r1 x6869
+turn low 1 hello r1 ended
+/",
+    // Three units for each turn.
+    "0 run|p.toml|e.txt
+/[channels]
+mail = { label = 'top', function = 'hello' }
+[limits.low]
+quantum = 3
+/ask low carol hello r1 x6869
+turn low 2
+/turn low 1 hello r1 waits
+reply low carol r1 x6869
+turn low 2 hello r1 ended
+/",
+    // Idle turns are counted.
+    "0 run|p.toml|e.txt
+/[channels]
+mail = { label = 'top', function = 'hello' }
+/turn bob
+turn bob 2
+/idle bob 1
+idle bob 2
+idle bob 3
+/",
+    // An endless activation has its fuel, and one at low runs between its turns.
+    "0 run|p.toml|e.txt
+/[channels]
+mail = { label = 'top', function = 'hello' }
+[limits.alice]
+quantum = 10
+fuel = 25
+/ask alice ann spin r1 x
+ask low carol hello r2 x6869
+turn alice
+turn low
+turn alice 3
+/turn alice 1 spin r1 waits
+reply low carol r2 x6869
+turn low 1 hello r2 ended
+turn alice 2 spin r1 waits
+turn alice 3 spin r1 trapped fuel
+idle alice 4
+/",
+    // No page is left.
+    "0 run|p.toml|e.txt
+/[channels]
+mail = { label = 'top', function = 'hello' }
+[limits.low]
+pages = 0
+/ask low carol hello r1 x
+turn low
+/turn low 1 hello r1 trapped pages
+/",
+    // A look sees the latest write that flows to it.
+    "0 run|p.toml|e.txt
+/[channels]
+mail = { label = 'top', function = 'hello' }
+/put low x6b x01
+put alice x6b x02
+ask bob sam look r1 x
+turn bob
+ask alice sam look r2 x
+turn alice
+ask top sam look r3 x
+turn top
+/reply top sam r1 x01
+turn bob 1 look r1 ended
+reply top sam r2 x02
+turn alice 1 look r2 ended
+reply top sam r3 x02
+turn top 1 look r3 ended
+facet low x6b x01
+facet alice x6b x02
+/",
+    // The latest write, not the one of the highest label.
+    "0 run|p.toml|e.txt
+/[channels]
+mail = { label = 'top', function = 'hello' }
+/put low x6b x01
+put alice x6b x02
+put low x6b x03
+ask alice sam look r1 x
+turn alice
+/reply top sam r1 x03
+turn alice 1 look r1 ended
+facet low x6b x03
+facet alice x6b x02
+/",
+    // An absent value above a value.
+    "0 run|p.toml|e.txt
+/[channels]
+mail = { label = 'top', function = 'hello' }
+/put low x6b x01
+put alice x6b -
+ask alice sam look r1 x
+turn alice
+ask low sam look r2 x
+turn low
+/turn alice 1 look r1 trapped size
+reply top sam r2 x01
+turn low 1 look r2 ended
+facet low x6b x01
+facet alice x6b -
+/",
+    // A value is stored, and looked up.
+    "0 run|p.toml|e.txt
+/[channels]
+mail = { label = 'top', function = 'hello' }
+/ask alice ann store r1 x0a
+turn alice
+ask alice ann look r2 x
+turn alice
+/turn alice 1 store r1 ended
+reply alice ann r2 x0a
+turn alice 2 look r2 ended
+facet alice x6b x0a
+/",
+    // A message to a label that it does not flow to vanishes.
+    "0 run|p.toml|e.txt
+/[channels]
+mail = { label = 'low', function = 'hello' }
+/ask alice ann twin r1 x6869
+turn alice
+turn low
+/turn alice 1 twin r1 ended
+idle low 1
+/",
+    // The second message finds a full list, and its sender goes on.
+    "0 run|p.toml|e.txt
+/[channels]
+mail = { label = 'top', function = 'hello' }
+[limits.top]
+queue = 1
+/ask low carol twin r1 x6869
+turn low
+/drop top hello r1
+turn low 1 twin r1 ended
+/",
+    // Both messages find room.
+    "0 run|p.toml|e.txt
+/[channels]
+mail = { label = 'top', function = 'hello' }
+[limits.top]
+queue = 9
+/ask low carol twin r1 x6869
+turn low
+/turn low 1 twin r1 ended
+/",
+    // Two messages of one request: the second reply vanishes.
+    "0 run|p.toml|e.txt
+/[channels]
+mail = { label = 'low', function = 'hello' }
+/ask low carol twin r1 x6869
+turn low 3
+/turn low 1 twin r1 ended
+reply low carol r1 x6869
+turn low 2 hello r1 ended
+turn low 3 hello r1 ended
+/",
+    // There is no channel.
+    "0 run|p.toml|e.txt
+/
+/ask low carol twin r1 x
+turn low
+/turn low 1 twin r1 trapped unknown
+/",
+    // A raise loses the clients below.
+    "0 run|p.toml|e.txt
+/[channels]
+mail = { label = 'top', function = 'hello' }
+/ask low carol lift r1 x6869
+ask low ann lift r2 x6869
+turn low 2
+turn alice 2
+/turn low 1 lift r1 raised
+turn low 2 lift r2 raised
+turn alice 1 lift r1 ended
+reply alice ann r2 x6869
+turn alice 2 lift r2 ended
+/",
+    // A raise to its own label goes on.
+    "0 run|p.toml|e.txt
+/[channels]
+mail = { label = 'top', function = 'hello' }
+/ask alice ann lift r1 x6869
+turn alice
+/reply alice ann r1 x6869
+turn alice 1 lift r1 ended
+/",
+    // A gate releases one byte.
+    "0 run|p.toml|e.txt
+/give = 'give.wasm'
+[channels]
+mail = { label = 'top', function = 'hello' }
+[gates.g]
 source = 'alice'
 target = 'low'
 function = 'store'
 filter = 'first'
 count = 1
-";
-
-/// The same gate, which lets nothing but the length through.
-const LENGTH_GATE: &str = "[gates.g]
+/ask alice ann give r1 x6869
+turn alice
+turn low
+ask low carol look r2 x
+turn low
+/turn alice 1 give r1 ended
+turn low 1 store - ended
+reply low carol r2 x68
+turn low 2 look r2 ended
+facet low x6b x68
+/",
+    // A gate of another source.
+    "0 run|p.toml|e.txt
+/give = 'give.wasm'
+[channels]
+mail = { label = 'top', function = 'hello' }
+[gates.g]
+source = 'alice'
+target = 'low'
+function = 'store'
+filter = 'first'
+count = 1
+/ask bob sam give r1 x6869
+turn bob
+turn low
+/turn bob 1 give r1 ended
+idle low 1
+/",
+    // A gate releases the length.
+    "0 run|p.toml|e.txt
+/give = 'give.wasm'
+[channels]
+mail = { label = 'top', function = 'hello' }
+[gates.g]
 source = 'alice'
 target = 'low'
 function = 'store'
 filter = 'length'
-";
-
-/// An activation at alice releases its input, and one at low looks for it.
-const RELEASE: &str =
-    "ask alice ann give r1 x6869\nturn alice\nturn low\nask low carol look r2 x\nturn low\n";
-
-/// Two writes of a key, and a look at it from each label that sees one of them.
-const LOOKS: &str = "put low x6b x01\nput alice x6b x02\n\
-    ask bob sam look r1 x\nturn bob\n\
-    ask alice sam look r2 x\nturn alice\n\
-    ask top sam look r3 x\nturn top\n";
-
-/// An absent value above a value.
-const ABSENT: &str = "put low x6b x01\nput alice x6b -\n\
-    ask alice sam look r1 x\nturn alice\n\
-    ask low sam look r2 x\nturn low\n";
-
-/// A value is stored, and looked up.
-const STORED: &str =
-    "ask alice ann store r1 x0a\nturn alice\nask alice ann look r2 x\nturn alice\n";
-
-/// An endless activation at alice, and one at low between its turns.
-const SPINNING: &str = "ask alice ann spin r1 x\nask low carol hello r2 x6869\n\
-    turn alice\nturn low\nturn alice 3\n";
-
-/// Few units at alice.
-const FEW_UNITS: &str = "[limits.alice]\nquantum = 10\nfuel = 25\n";
-
-#[test]
-fn activations_take_turns_within_their_units(rt: HostRuntime) -> Result<(), Fail> {
-    let cases: &[Case] = &[
-        (
-            RUN,
-            &[MAIL],
-            "ask low carol hello r1 x6869\nturn low\n",
-            "reply low carol r1 x6869\nturn low 1 hello r1 ended\n",
-        ),
-        (
-            RUN,
-            &[MAIL, "[limits.low]\nquantum = 3\n"],
-            "ask low carol hello r1 x6869\nturn low 2\n",
-            "turn low 1 hello r1 waits\nreply low carol r1 x6869\nturn low 2 hello r1 ended\n",
-        ),
-        (
-            RUN,
-            &[MAIL],
-            "turn bob\nturn bob 2\n",
-            "idle bob 1\nidle bob 2\nidle bob 3\n",
-        ),
-        (
-            RUN,
-            &[MAIL, FEW_UNITS],
-            SPINNING,
-            "turn alice 1 spin r1 waits\nreply low carol r2 x6869\nturn low 1 hello r2 ended\n\
-            turn alice 2 spin r1 waits\nturn alice 3 spin r1 trapped fuel\nidle alice 4\n",
-        ),
-        (
-            RUN,
-            &[MAIL, "[limits.low]\npages = 0\n"],
-            "ask low carol hello r1 x\nturn low\n",
-            "turn low 1 hello r1 trapped pages\n",
-        ),
-    ];
-    write_their_texts(&rt, rt.alloc(), cases)
-}
-
-#[test]
-fn a_look_sees_the_latest_visible_value(rt: HostRuntime) -> Result<(), Fail> {
-    let cases: &[Case] = &[
-        (
-            RUN,
-            &[MAIL],
-            LOOKS,
-            "reply top sam r1 x01\nturn bob 1 look r1 ended\n\
-            reply top sam r2 x02\nturn alice 1 look r2 ended\n\
-            reply top sam r3 x02\nturn top 1 look r3 ended\n\
-            facet low x6b x01\nfacet alice x6b x02\n",
-        ),
-        (
-            RUN,
-            &[MAIL],
-            "put low x6b x01\nput alice x6b x02\nput low x6b x03\nask alice sam look r1 x\nturn alice\n",
-            "reply top sam r1 x03\nturn alice 1 look r1 ended\n\
-            facet low x6b x03\nfacet alice x6b x02\n",
-        ),
-        (
-            RUN,
-            &[MAIL],
-            ABSENT,
-            "turn alice 1 look r1 trapped size\nreply top sam r2 x01\nturn low 1 look r2 ended\n\
-            facet low x6b x01\nfacet alice x6b -\n",
-        ),
-        (
-            RUN,
-            &[MAIL],
-            STORED,
-            "turn alice 1 store r1 ended\nreply alice ann r2 x0a\nturn alice 2 look r2 ended\n\
-            facet alice x6b x0a\n",
-        ),
-    ];
-    write_their_texts(&rt, rt.alloc(), cases)
-}
-
-#[test]
-fn messages_arrive_where_they_flow_and_have_room(rt: HostRuntime) -> Result<(), Fail> {
-    let cases: &[Case] = &[
-        (
-            RUN,
-            &[LOW_MAIL],
-            "ask alice ann twin r1 x6869\nturn alice\nturn low\n",
-            "turn alice 1 twin r1 ended\nidle low 1\n",
-        ),
-        (
-            RUN,
-            &[MAIL, "[limits.top]\nqueue = 1\n"],
-            "ask low carol twin r1 x6869\nturn low\n",
-            "drop top hello r1\nturn low 1 twin r1 ended\n",
-        ),
-        (
-            RUN,
-            &[MAIL, "[limits.top]\nqueue = 9\n"],
-            "ask low carol twin r1 x6869\nturn low\n",
-            "turn low 1 twin r1 ended\n",
-        ),
-        (
-            RUN,
-            &[LOW_MAIL],
-            "ask low carol twin r1 x6869\nturn low 3\n",
-            "turn low 1 twin r1 ended\nreply low carol r1 x6869\n\
-            turn low 2 hello r1 ended\nturn low 3 hello r1 ended\n",
-        ),
-        (
-            RUN,
-            &[],
-            "ask low carol twin r1 x\nturn low\n",
-            "turn low 1 twin r1 trapped unknown\n",
-        ),
-    ];
-    write_their_texts(&rt, rt.alloc(), cases)
-}
-
-#[test]
-fn a_raise_loses_the_clients_below(rt: HostRuntime) -> Result<(), Fail> {
-    let cases: &[Case] = &[
-        (
-            RUN,
-            &[MAIL],
-            "ask low carol lift r1 x6869\nask low ann lift r2 x6869\nturn low 2\nturn alice 2\n",
-            "turn low 1 lift r1 raised\nturn low 2 lift r2 raised\n\
-            turn alice 1 lift r1 ended\n\
-            reply alice ann r2 x6869\nturn alice 2 lift r2 ended\n",
-        ),
-        (
-            RUN,
-            &[MAIL],
-            "ask alice ann lift r1 x6869\nturn alice\n",
-            "reply alice ann r1 x6869\nturn alice 1 lift r1 ended\n",
-        ),
-    ];
-    write_their_texts(&rt, rt.alloc(), cases)
-}
-
-#[test]
-fn a_gate_releases_what_its_filter_lets_through(rt: HostRuntime) -> Result<(), Fail> {
-    let cases: &[Case] = &[
-        (
-            RUN,
-            &[GIVING, MAIL, GATE],
-            RELEASE,
-            "turn alice 1 give r1 ended\nturn low 1 store - ended\n\
-            reply low carol r2 x68\nturn low 2 look r2 ended\nfacet low x6b x68\n",
-        ),
-        (
-            RUN,
-            &[GIVING, MAIL, GATE],
-            "ask bob sam give r1 x6869\nturn bob\nturn low\n",
-            "turn bob 1 give r1 ended\nidle low 1\n",
-        ),
-        (
-            RUN,
-            &[GIVING, MAIL, LENGTH_GATE],
-            RELEASE,
-            "turn alice 1 give r1 ended\nturn low 1 store - ended\n\
-            reply low carol r2 x02000000\nturn low 2 look r2 ended\nfacet low x6b x02000000\n",
-        ),
-        (
-            RUN,
-            &[GIVING, MAIL],
-            RELEASE,
-            "turn alice 1 give r1 trapped unknown\nidle low 1\nturn low 2 look r2 trapped size\n",
-        ),
-    ];
-    write_their_texts(&rt, rt.alloc(), cases)
-}
-
-#[test]
-fn a_trace_has_the_lines_of_all_kinds(rt: HostRuntime) -> Result<(), Fail> {
-    let cases: &[Case] = &[
-        (
-            TRACE,
-            &[MAIL],
-            "ask low carol hello r1 x6869\nturn low\n",
-            "start low low hello r1\nanswer low carol r1 x6869\nreply low carol r1 x6869\n\
-            turn low 1 hello r1 ended\n",
-        ),
-        (
-            TRACE,
-            &[MAIL],
-            ABSENT,
-            "write low x6b x01\nwrite alice x6b -\n\
-            start alice alice look r1\nread alice x6b -\nturn alice 1 look r1 trapped size\n\
-            start low low look r2\nread low x6b x01\nanswer low sam r2 x01\nreply top sam r2 x01\n\
-            turn low 1 look r2 ended\nfacet low x6b x01\nfacet alice x6b -\n",
-        ),
-        (
-            TRACE,
-            &[MAIL],
-            STORED,
-            "start alice alice store r1\nwrite alice x6b x0a\nturn alice 1 store r1 ended\n\
-            start alice alice look r2\nread alice x6b x0a\nanswer alice ann r2 x0a\n\
-            reply alice ann r2 x0a\nturn alice 2 look r2 ended\nfacet alice x6b x0a\n",
-        ),
-        (
-            TRACE,
-            &[MAIL, "[limits.top]\nqueue = 1\n"],
-            "ask low carol twin r1 x6869\nturn low\n",
-            "start low low twin r1\nsend low mail x6869\nstart top low hello r1\n\
-            send low mail x6869\ndrop top hello r1\nturn low 1 twin r1 ended\n",
-        ),
-        (
-            TRACE,
-            &[GIVING, MAIL, GATE],
-            RELEASE,
-            "start alice alice give r1\nstart low alice store -\nturn alice 1 give r1 ended\n\
-            write low x6b x68\nturn low 1 store - ended\n\
-            start low low look r2\nread low x6b x68\nanswer low carol r2 x68\n\
-            reply low carol r2 x68\nturn low 2 look r2 ended\nfacet low x6b x68\n",
-        ),
-    ];
-    write_their_texts(&rt, rt.alloc(), cases)
-}
+/ask alice ann give r1 x6869
+turn alice
+turn low
+ask low carol look r2 x
+turn low
+/turn alice 1 give r1 ended
+turn low 1 store - ended
+reply low carol r2 x02000000
+turn low 2 look r2 ended
+facet low x6b x02000000
+/",
+    // There is no gate.
+    "0 run|p.toml|e.txt
+/give = 'give.wasm'
+[channels]
+mail = { label = 'top', function = 'hello' }
+/ask alice ann give r1 x6869
+turn alice
+turn low
+ask low carol look r2 x
+turn low
+/turn alice 1 give r1 trapped unknown
+idle low 1
+turn low 2 look r2 trapped size
+/",
+    // A trace of a reply.
+    "0 trace|p.toml|e.txt
+/[channels]
+mail = { label = 'top', function = 'hello' }
+/ask low carol hello r1 x6869
+turn low
+/start low low hello r1
+answer low carol r1 x6869
+reply low carol r1 x6869
+turn low 1 hello r1 ended
+/",
+    // A trace of an absent value above a value.
+    "0 trace|p.toml|e.txt
+/[channels]
+mail = { label = 'top', function = 'hello' }
+/put low x6b x01
+put alice x6b -
+ask alice sam look r1 x
+turn alice
+ask low sam look r2 x
+turn low
+/write low x6b x01
+write alice x6b -
+start alice alice look r1
+read alice x6b -
+turn alice 1 look r1 trapped size
+start low low look r2
+read low x6b x01
+answer low sam r2 x01
+reply top sam r2 x01
+turn low 1 look r2 ended
+facet low x6b x01
+facet alice x6b -
+/",
+    // A trace of a value that is stored, and looked up.
+    "0 trace|p.toml|e.txt
+/[channels]
+mail = { label = 'top', function = 'hello' }
+/ask alice ann store r1 x0a
+turn alice
+ask alice ann look r2 x
+turn alice
+/start alice alice store r1
+write alice x6b x0a
+turn alice 1 store r1 ended
+start alice alice look r2
+read alice x6b x0a
+answer alice ann r2 x0a
+reply alice ann r2 x0a
+turn alice 2 look r2 ended
+facet alice x6b x0a
+/",
+    // A trace of two messages, the second into a full list.
+    "0 trace|p.toml|e.txt
+/[channels]
+mail = { label = 'top', function = 'hello' }
+[limits.top]
+queue = 1
+/ask low carol twin r1 x6869
+turn low
+/start low low twin r1
+send low mail x6869
+start top low hello r1
+send low mail x6869
+drop top hello r1
+turn low 1 twin r1 ended
+/",
+    // A trace of a release.
+    "0 trace|p.toml|e.txt
+/give = 'give.wasm'
+[channels]
+mail = { label = 'top', function = 'hello' }
+[gates.g]
+source = 'alice'
+target = 'low'
+function = 'store'
+filter = 'first'
+count = 1
+/ask alice ann give r1 x6869
+turn alice
+turn low
+ask low carol look r2 x
+turn low
+/start alice alice give r1
+start low alice store -
+turn alice 1 give r1 ended
+write low x6b x68
+turn low 1 store - ended
+start low low look r2
+read low x6b x68
+answer low carol r2 x68
+reply low carol r2 x68
+turn low 2 look r2 ended
+facet low x6b x68
+/",
+    // The view at low of the endless activation at alice.
+    "0 view|p.toml|e.txt|low
+/[channels]
+mail = { label = 'top', function = 'hello' }
+[limits.alice]
+quantum = 10
+fuel = 25
+/ask alice ann spin r1 x
+ask low carol hello r2 x6869
+turn alice
+turn low
+turn alice 3
+/reply low carol r2 x6869
+turn low 1 hello r2 ended
+/",
+    // The same without the events of alice.
+    "0 view|p.toml|e.txt|low
+/[channels]
+mail = { label = 'top', function = 'hello' }
+[limits.alice]
+quantum = 10
+fuel = 25
+/ask low carol hello r2 x6869
+turn low
+/reply low carol r2 x6869
+turn low 1 hello r2 ended
+/",
+    // The view at alice of three looks.
+    "0 view|p.toml|e.txt|alice
+/[channels]
+mail = { label = 'top', function = 'hello' }
+/put low x6b x01
+put alice x6b x02
+ask bob sam look r1 x
+turn bob
+ask alice sam look r2 x
+turn alice
+ask top sam look r3 x
+turn top
+/turn alice 1 look r2 ended
+facet low x6b x01
+facet alice x6b x02
+/",
+    // The view at low of a release.
+    "0 view|p.toml|e.txt|low
+/give = 'give.wasm'
+[channels]
+mail = { label = 'top', function = 'hello' }
+[gates.g]
+source = 'alice'
+target = 'low'
+function = 'store'
+filter = 'first'
+count = 1
+/ask alice ann give r1 x6869
+turn alice
+turn low
+ask low carol look r2 x
+turn low
+/turn low 1 store - ended
+reply low carol r2 x68
+turn low 2 look r2 ended
+facet low x6b x68
+/",
+    // A module with a table, a global, long indices and a custom section.
+    "0 run|p.toml|e.txt
+/labels = ['low']
+clients = { carol = { clearance = 'low' } }
+functions = { hello = 'built.wasm' }
+/ask low carol hello r1 x6869
+turn low
+/reply low carol r1 x6869
+turn low 1 hello r1 ended
+/",
+    // A fill, a copy and a sign extension.
+    "0 run|p.toml|e.txt
+/labels = ['low']
+clients = { carol = { clearance = 'low' } }
+functions = { hello = 'fill.wasm' }
+/ask low carol hello r1 x
+turn low
+/reply low carol r1 x0707070080ffffff
+turn low 1 hello r1 ended
+/",
+];
 
 #[test]
-fn a_view_has_the_lines_that_flow_to_its_label(rt: HostRuntime) -> Result<(), Fail> {
-    let cases: &[Case] = &[
-        (
-            VIEW_LOW,
-            &[MAIL, FEW_UNITS],
-            SPINNING,
-            "reply low carol r2 x6869\nturn low 1 hello r2 ended\n",
-        ),
-        // The same without the events of alice.
-        (
-            VIEW_LOW,
-            &[MAIL, FEW_UNITS],
-            "ask low carol hello r2 x6869\nturn low\n",
-            "reply low carol r2 x6869\nturn low 1 hello r2 ended\n",
-        ),
-        (
-            VIEW_ALICE,
-            &[MAIL],
-            LOOKS,
-            "turn alice 1 look r2 ended\nfacet low x6b x01\nfacet alice x6b x02\n",
-        ),
-        (
-            VIEW_LOW,
-            &[GIVING, MAIL, GATE],
-            RELEASE,
-            "turn low 1 store - ended\nreply low carol r2 x68\nturn low 2 look r2 ended\n\
-            facet low x6b x68\n",
-        ),
-    ];
-    write_their_texts(&rt, rt.alloc(), cases)
-}
-
-#[test]
-fn modules_of_other_forms_run(rt: HostRuntime) -> Result<(), Fail> {
-    let alloc = rt.alloc();
-    for (module, events, text) in [
-        (
-            BUILT,
-            "ask low carol hello r1 x6869\nturn low\n",
-            "reply low carol r1 x6869\nturn low 1 hello r1 ended\n",
-        ),
-        (
-            FILL,
-            "ask low carol hello r1 x\nturn low\n",
-            "reply low carol r1 x0707070080ffffff\nturn low 1 hello r1 ended\n",
-        ),
-    ] {
-        let mut files = held(alloc, FOUR, events)?;
-        files.hold("echo.wasm", module)?;
-        assert!(rt; ends(alloc, RUN, &mut files, 0, text, "")?, "{events}");
-    }
-    Ok(())
+fn functions_under_four_labels_write_their_lines(rt: HostRuntime) -> Result<(), Fail> {
+    all_end(&rt, rt.alloc(), WORKED)
 }

@@ -1,8 +1,0 @@
-use Rattle.std.proofs.Common.{All}
-use Rattle.label_lattice.specs.Order.{count}
-use Rattle.trapeze_lines.specs.Lines.{IsLabelled}
-use Rattle.noninterference_laws.proofs.tests.lines_of.Given as goal
-
--- the lines so far have labels of the lattice
-abbrev pub invariant-texts : goal.invariant-texts
-invariant-texts l = All (IsLabelled (count l.lattice)) l.lines
