@@ -8,8 +8,6 @@ mod next;
 mod put;
 mod row;
 mod steps;
-#[cfg(test)]
-mod tests;
 
 pub use index::FacetIndex;
 pub use steps::{Answers, StoreAnswer, StoreStep, play_steps};

@@ -7,8 +7,6 @@ mod laws;
 mod list;
 mod room;
 mod scan;
-#[cfg(test)]
-mod tests;
 mod write;
 
 pub use facets::{Facets, Wrote};

@@ -4,8 +4,6 @@
 mod filter;
 mod gate;
 mod gates;
-#[cfg(test)]
-mod tests;
 
 pub use filter::Filter;
 pub use gate::Gate;

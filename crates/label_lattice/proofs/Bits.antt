@@ -17,9 +17,6 @@ one_of (suc old) by from new is lo lb lf e = inl (omega arith)
 pub joined_row : (x from reached b : ℕ) → bit_and (x / 2 ^ from) 1 ≡ 1 → bit_at (bit_or x reached) b ≡ max (bit_at x b) (min (bit_at x from) (bit_at reached b))
 joined_row x from reached b test = omega (arith, bit_at_or x reached b, shr_and_one x from, bit_at-lt reached b)
 
-pub kept_row : (x from reached b : ℕ) → bit_and (x / 2 ^ from) 1 ≢ 1 → bit_at x b ≡ max (bit_at x b) (min (bit_at x from) (bit_at reached b))
-kept_row x from reached b test = omega (arith, shr_and_one x from, bit_at-lt x from)
-
 -- the rows below i are joined, and the others are as they were
 pub record SoFar (before now : List ℕ) (from reached i : ℕ) : Type 0 where
   pub long : length now ≡ length before
@@ -114,11 +111,3 @@ Column-all rows b x i so le a = elim (cases_lt a i) [ inl lt ↦ so.done a lt | 
 pub record Turned (rows now : List ℕ) (i : ℕ) : Type 0 where
   pub long : length now ≡ 64
   pub done : (b : ℕ) → b < i → (a : ℕ) → bit now b a ≡ bit rows a b
-
-pub Turned-more : (rows now : List ℕ) (i x : ℕ) → Turned rows now i → i < 64 → ((a : ℕ) → bit_at x a ≡ bit rows a i) → Turned rows (set now i x) (i + 1)
-Turned-more rows now i x so small is = let lt : i < length now = omega (arith, so.long) in record {
-  long = simp length-set so.long;
-  done = below_more (λ b. (a : ℕ) → bit_at (get_or (set now i x) b 0) a ≡ bit rows a b) i
-      (λ k h a. let ne : k ≢ i = omega arith in rw get_or-set_other (so.done k h a))
-      (λ a. rw get_or-set_same (is a));
-}

@@ -139,13 +139,6 @@ turned_bit n rows now closed few t a b = (
   λ e. let within = (closed.within b a e).1 in t.turned a b (omega arith) ∙ e,
 )
 
-pub turned_closed : (n : ℕ) (rows now : List ℕ) → IsClosed n rows → n ≤ 64 → IsTurned rows now → IsClosed n now
-turned_closed n rows now closed few t = record {
-  own = λ a lt. (turned_bit n rows now closed few t a a).1 (closed.own a lt);
-  within = λ a b e. let both = closed.within b a ((turned_bit n rows now closed few t a b).0 e) in (both.1, both.0);
-  transitive = λ a b d e g. (turned_bit n rows now closed few t a d).1 (closed.transitive d b a ((turned_bit n rows now closed few t b d).0 g) ((turned_bit n rows now closed few t a b).0 e));
-}
-
 pub flows_itself : (rows : List ℕ) (a b : ℕ) → a ≡ b → IsTrue (row_flows rows a b)
 flows_itself rows a b e = or_first (a == b) _ ((Decides-eqb a b).1 e)
 

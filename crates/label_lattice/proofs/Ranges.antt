@@ -3,7 +3,7 @@ use Rattle.std.proofs.Common.{◌≡◌, ℕ, suc, ◌+◌, ◌-◌, ◌<◌, �
 use Rattle.std.specs.Prelude.{find, ◌||◌}
 use Rattle.std.specs.Option.{is_some}
 use Rattle.std.specs.List.{list_any, range_with_len, flat_map}
-use Rattle.label_lattice.specs.Joins.{labels, labels_from, label_pairs}
+use Rattle.label_lattice.specs.Joins.{labels, labels_from}
 
 pub labels_from_zero : (n : ℕ) → labels n ≡ labels_from 0 n
 labels_from_zero n = let e : n ≡ n - 0 = omega arith in ap (range_with_len 0) e
@@ -32,20 +32,11 @@ pairs_from a n = flat_map (λ a. map (λ b. (a, b)) (labels_from (a + 1) n)) (la
 abbrev pub pairs_at : ℕ → ℕ → ℕ → List (ℕ × ℕ)
 pairs_at a b n = map (λ b. (a, b)) (labels_from b n) ++ pairs_from (a + 1) n
 
-pub pairs_from_zero : (n : ℕ) → label_pairs n ≡ pairs_from 0 n
-pairs_from_zero n = ap (flat_map (λ a. map (λ b. (a, b)) (labels_from (a + 1) n))) (labels_from_zero n)
-
 pub pairs_more : (a n : ℕ) → a < n → pairs_from a n ≡ pairs_at a (a + 1) n
 pairs_more a n lt = ap (flat_map (λ a. map (λ b. (a, b)) (labels_from (a + 1) n))) (labels_more a n lt)
 
-pub pairs_none : (a n : ℕ) → n ≤ a → pairs_from a n ≡ []
-pairs_none a n le = ap (flat_map (λ a. map (λ b. (a, b)) (labels_from (a + 1) n))) (labels_none a n le)
-
 pub pairs_next : (a b n : ℕ) → b < n → pairs_at a b n ≡ (a, b) ∷ pairs_at a (b + 1) n
 pairs_next a b n lt = ap (λ bs. map (λ b. (a, b)) bs ++ pairs_from (a + 1) n) (labels_more b n lt)
-
-pub pairs_end : (a b n : ℕ) → n ≤ b → pairs_at a b n ≡ pairs_from (a + 1) n
-pairs_end a b n le = ap (λ bs. map (λ b. (a, b)) bs ++ pairs_from (a + 1) n) (labels_none b n le)
 
 pub find_pair_here : (p : ℕ × ℕ → Bool) (a b n : ℕ) → b < n → p (a, b) ≡ true → find p (pairs_at a b n) ≡ Some (a, b)
 find_pair_here p a b n lt e = ap (find p) (pairs_next a b n lt) ∙ ap (λ t. cond t (Some (a, b)) (find p (pairs_at a (b + 1) n))) e

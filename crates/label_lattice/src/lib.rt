@@ -9,8 +9,6 @@ mod laws;
 mod names;
 mod search;
 mod table;
-#[cfg(test)]
-mod tests;
 
 pub use ascending::number_among;
 pub use error::LatticeError;

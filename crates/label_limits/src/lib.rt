@@ -3,8 +3,6 @@
 
 mod limits;
 mod meter;
-#[cfg(test)]
-mod tests;
 
 pub use limits::{LimitError, Limits};
 pub use meter::{Count, Meter};

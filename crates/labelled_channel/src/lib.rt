@@ -2,7 +2,5 @@
 #![tactic(auto)]
 
 mod channels;
-#[cfg(test)]
-mod tests;
 
 pub use channels::{Channels, Delivery};

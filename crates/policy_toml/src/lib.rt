@@ -19,6 +19,3 @@ pub use error::PolicyError;
 pub use place::{Part, Place};
 pub use policy::Policy;
 pub use read::read_policy;
-
-#[cfg(test)]
-mod tests;

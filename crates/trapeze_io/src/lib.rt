@@ -13,8 +13,6 @@ mod plan;
 mod real;
 mod sizes;
 mod streams;
-#[cfg(test)]
-mod tests;
 mod whole;
 mod words;
 
