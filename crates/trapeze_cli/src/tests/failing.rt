@@ -122,10 +122,10 @@ const WRITES: &[(&str, &str)] = &[
     ),
 ];
 
-/// Whether a call with these words whose output fails at the byte with this number, from 1, has the text before it.
-fn stops<'a>(alloc: Global, words: &'a str, text: &'a str, byte: u32) -> Result<bool, Fail> {
-    let whole = text.len() < byte as usize;
-    let Some(text) = text.get(..byte as usize - 1) else {
+/// Whether a call with these words whose output takes so many bytes, one at a time, and then fails, has the text of so many.
+fn stops<'a>(alloc: Global, words: &'a str, text: &'a str, taken: u32) -> Result<bool, Fail> {
+    let whole = text.len() <= taken as usize;
+    let Some(text) = text.get(..taken as usize) else {
         return Ok(false);
     };
     let row = Row {
@@ -135,14 +135,14 @@ fn stops<'a>(alloc: Global, words: &'a str, text: &'a str, byte: u32) -> Result<
         error: if whole { "" } else { UNWRITTEN },
         ..PLAYED
     };
-    ends(alloc, &row, [SOUND, (byte, 1), SOUND])
+    ends(alloc, &row, [SOUND, (taken.saturating_add(1), 1), SOUND])
 }
 
 #[test]
 fn an_output_that_fails_has_a_prefix_of_the_text(rt: HostRuntime) -> Result<(), Fail> {
     for (words, text) in WRITES {
-        for byte in 0..=text.len() as u32 {
-            assert!(rt; stops(rt.alloc(), words, text, byte + 1)?, "byte {byte}");
+        for taken in 0..=text.len() as u32 {
+            assert!(rt; stops(rt.alloc(), words, text, taken)?, "byte {taken}");
         }
     }
     Ok(())
