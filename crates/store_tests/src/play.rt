@@ -68,7 +68,7 @@ fn come<F: Facets>(store: &mut F, lattice: &Lattice, steps: &[Step]) -> Result<b
     ensures { length (F.limits store.new) ≡ 4 }
 {
     let mut all = true;
-    for step in steps {
+    'steps: for step in steps {
         let came = comes(store, lattice, *step)?;
         all = all && came;
     }
