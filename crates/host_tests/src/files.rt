@@ -6,8 +6,10 @@ ghost use Rattle.event_file.specs.Reader.{IsOneLine};
 
 use crate::shown::add_entry;
 use event_file::{EventReader, LineError, LineFault, Next};
+use label_lattice::Lattice;
 use policy_toml::{Policy, read_policy};
 use std::alloc::Global;
+use std::process::Abort;
 use std::test::Fail;
 use trapeze_io::Name;
 
@@ -77,12 +79,16 @@ fn finish(
 }
 
 /// The entries of the file, and its bad line, if there is one.
-fn script(alloc: Global, file: &[u8], whole: bool) -> Result<(String, Option<LineError>), Fail> {
-    let policy = three_labels(alloc)?;
+fn script(
+    alloc: Global,
+    lattice: &Lattice,
+    file: &[u8],
+    whole: bool,
+) -> Result<(String, Option<LineError>), Fail> {
     let (Some(clients), Some(functions)) = (clients(), functions()) else {
         return Err(Fail::new("names"));
     };
-    let mut reader = EventReader::new(alloc, policy.lattice(), &clients, &functions);
+    let mut reader = EventReader::new(alloc, lattice, &clients, &functions);
     let mut text = String::new(alloc);
     if file.len() > 1_000_000 {
         return Err(Fail::new("a long file"));
@@ -139,12 +145,13 @@ const FILES: &[(&[u8], &str, u64)] = &[
 /// Whether the file, read so, has these entries and this bad line.
 fn is_script(
     alloc: Global,
+    lattice: &Lattice,
     file: &[u8],
     whole: bool,
     entries: &str,
     line: u64,
 ) -> Result<bool, Fail> {
-    let (text, bad) = script(alloc, file, whole)?;
+    let (text, bad) = script(alloc, lattice, file, whole)?;
     let number = match bad {
         Some(bad) => bad.line,
         None => 0,
@@ -152,19 +159,20 @@ fn is_script(
     Ok(text.as_str() == entries && number == line)
 }
 
-#[test]
-fn files_give_their_entries_in_any_cut(rt: HostRuntime) -> Result<(), Fail> {
+/// Each file is read so, whole and by single bytes.
+fn all_scripts(rt: &impl Abort, alloc: Global, lattice: &Lattice) -> Result<(), Fail> {
     for (file, entries, line) in FILES {
-        assert!(rt;
-            is_script(rt.alloc(), file, true, entries, *line)?,
-            "{entries}"
-        );
-        assert!(rt;
-            is_script(rt.alloc(), file, false, entries, *line)?,
-            "{entries}"
-        );
+        let whole = is_script(alloc, lattice, file, true, entries, *line)?;
+        let cut = is_script(alloc, lattice, file, false, entries, *line)?;
+        assert!(rt; whole && cut, "{entries}");
     }
     Ok(())
+}
+
+#[test]
+fn files_give_their_entries_in_any_cut(rt: HostRuntime) -> Result<(), Fail> {
+    let policy = three_labels(rt.alloc())?;
+    all_scripts(&rt, rt.alloc(), policy.lattice())
 }
 
 /// A line of a front, so many letters, and a back.
@@ -247,20 +255,37 @@ const FAULTS: &[(&[u8], LineFault)] = &[
 ];
 
 /// Whether the fault of the file's first line is this one.
-fn has_fault(alloc: Global, file: &[u8], expected: Option<LineFault>) -> Result<bool, Fail> {
-    let (_text, bad) = script(alloc, file, true)?;
+fn has_fault(
+    alloc: Global,
+    lattice: &Lattice,
+    file: &[u8],
+    expected: Option<LineFault>,
+) -> Result<bool, Fail> {
+    let (_text, bad) = script(alloc, lattice, file, true)?;
     match bad {
         Some(bad) => Ok(bad.line == 1 && Some(bad.fault) == expected),
         None => Ok(expected.is_none()),
     }
 }
 
-#[test]
-fn lines_labels_keys_and_values_have_limits(rt: HostRuntime) -> Result<(), Fail> {
-    for (front, count, back, expected) in LENGTHS {
-        let file = filled(rt.alloc(), front, *count, back)?;
+/// Whether a file of a front, so many letters and a back has this fault.
+fn is_so_long(
+    alloc: Global,
+    lattice: &Lattice,
+    front: &[u8],
+    count: usize,
+    back: &[u8],
+    expected: Option<LineFault>,
+) -> Result<bool, Fail> {
+    let file = filled(alloc, front, count, back)?;
+    has_fault(alloc, lattice, file.as_slice(), expected)
+}
+
+/// Each file of a length has its fault.
+fn all_lengths(rt: &impl Abort, alloc: Global, lattice: &Lattice) -> Result<(), Fail> {
+    for (front, count, back, fault) in LENGTHS {
         assert!(rt;
-            has_fault(rt.alloc(), file.as_slice(), *expected)?,
+            is_so_long(alloc, lattice, front, *count, back, *fault)?,
             "{count}"
         );
     }
@@ -268,45 +293,71 @@ fn lines_labels_keys_and_values_have_limits(rt: HostRuntime) -> Result<(), Fail>
 }
 
 #[test]
-fn each_bad_line_has_its_first_fault(rt: HostRuntime) -> Result<(), Fail> {
+fn lines_labels_keys_and_values_have_limits(rt: HostRuntime) -> Result<(), Fail> {
+    let policy = three_labels(rt.alloc())?;
+    all_lengths(&rt, rt.alloc(), policy.lattice())
+}
+
+/// Each line has its first fault.
+fn all_faults(rt: &impl Abort, alloc: Global, lattice: &Lattice) -> Result<(), Fail> {
     for (line, fault) in FAULTS {
-        assert!(rt; has_fault(rt.alloc(), line, Some(*fault))?);
+        assert!(rt; has_fault(alloc, lattice, line, Some(*fault))?);
     }
     Ok(())
+}
+
+#[test]
+fn each_bad_line_has_its_first_fault(rt: HostRuntime) -> Result<(), Fail> {
+    let policy = three_labels(rt.alloc())?;
+    all_faults(&rt, rt.alloc(), policy.lattice())
+}
+
+/// Whether a bad line is answered again.
+fn stays_bad(alloc: Global, lattice: &Lattice) -> Result<bool, Fail> {
+    let mut reader = EventReader::new(alloc, lattice, &[], &[]);
+    reader.feed(b"# no entry\nput low x6b\nput low x6b -\nput low")?;
+    let Next::Bad(first) = reader.next_line() else {
+        return Ok(false);
+    };
+    let Next::Bad(second) = reader.next_line() else {
+        return Ok(false);
+    };
+    Ok(first.line == 2 && second.line == 2)
 }
 
 #[test]
 fn a_bad_line_is_answered_again(rt: HostRuntime) -> Result<(), Fail> {
     let policy = three_labels(rt.alloc())?;
-    let mut reader = EventReader::new(rt.alloc(), policy.lattice(), &[], &[]);
-    reader.feed(b"# no entry\nput low x6b\nput low x6b -\nput low")?;
-    for _ in 0..2 {
-        let Next::Bad(bad) = reader.next_line() else {
-            return Err(Fail::new("no bad line"));
-        };
-        assert_eq!(rt; bad.line, 2);
-    }
+    let stays = stays_bad(rt.alloc(), policy.lattice())?;
+    assert!(rt; stays);
     Ok(())
+}
+
+/// Whether there is no line after the last one.
+fn ends_once(alloc: Global, lattice: &Lattice) -> Result<bool, Fail> {
+    let mut reader = EventReader::new(alloc, lattice, &[], &[]);
+    reader.feed(b"put low x6b -")?;
+    let fed = reader.fed();
+    let Next::NoLine = reader.next_line() else {
+        return Ok(false);
+    };
+    let held = reader.held();
+    let Next::Entry(_entry) = reader.finish() else {
+        return Ok(false);
+    };
+    let Next::NoLine = reader.finish() else {
+        return Ok(false);
+    };
+    let Next::NoLine = reader.finish() else {
+        return Ok(false);
+    };
+    Ok(fed == 13 && held == 13)
 }
 
 #[test]
 fn after_the_end_there_is_no_line(rt: HostRuntime) -> Result<(), Fail> {
     let policy = three_labels(rt.alloc())?;
-    let mut reader = EventReader::new(rt.alloc(), policy.lattice(), &[], &[]);
-    reader.feed(b"put low x6b -")?;
-    assert_eq!(rt; reader.fed(), 13);
-    let Next::NoLine = reader.next_line() else {
-        return Err(Fail::new("a whole line"));
-    };
-    assert_eq!(rt; reader.held(), 13);
-    let Next::Entry(_entry) = reader.finish() else {
-        return Err(Fail::new("no entry"));
-    };
-    let Next::NoLine = reader.finish() else {
-        return Err(Fail::new("one more"));
-    };
-    let Next::NoLine = reader.finish() else {
-        return Err(Fail::new("two more"));
-    };
+    let once = ends_once(rt.alloc(), policy.lattice())?;
+    assert!(rt; once);
     Ok(())
 }

@@ -1,12 +1,12 @@
 //! The texts of lines, both ways.
 
-use crate::labels::four_labels;
+use crate::labels::{four_labels, lines_of};
 use label_lattice::Lattice;
 use std::alloc::Global;
 use std::process::Abort;
 use std::test::Fail;
 use trapeze_io::Bytes;
-use trapeze_lines::{Lines, ReadLine, read_text, texts_tell_lines, write_text};
+use trapeze_lines::{ReadLine, read_text, texts_tell_lines, write_text};
 
 /// A line of each kind, and of each form of an outcome, an id and a value.
 const TEXTS: &[&str] = &[
@@ -76,44 +76,61 @@ fn is_read(alloc: Global, lattice: &Lattice, text: &str) -> Result<bool, Fail> {
 }
 
 /// Each text is read so.
-fn all_read(rt: &impl Abort, alloc: Global, texts: &[&str], read: bool) -> Result<(), Fail> {
-    let policy = four_labels(alloc)?;
+fn all_read(
+    rt: &impl Abort,
+    alloc: Global,
+    lattice: &Lattice,
+    texts: &[&str],
+    read: bool,
+) -> Result<(), Fail> {
     for text in texts {
-        assert!(rt; is_read(alloc, policy.lattice(), text)? == read, "{text}");
+        assert!(rt; is_read(alloc, lattice, text)? == read, "{text}");
     }
     Ok(())
 }
 
 #[test]
 fn texts_both_ways(rt: HostRuntime) -> Result<(), Fail> {
-    all_read(&rt, rt.alloc(), TEXTS, true)?;
     texts_tell_lines();
-    Ok(())
+    let policy = four_labels(rt.alloc())?;
+    all_read(&rt, rt.alloc(), policy.lattice(), TEXTS, true)
 }
 
 #[test]
 fn texts_of_no_line(rt: HostRuntime) -> Result<(), Fail> {
-    all_read(&rt, rt.alloc(), NO_LINES, false)
+    let policy = four_labels(rt.alloc())?;
+    all_read(&rt, rt.alloc(), policy.lattice(), NO_LINES, false)
+}
+
+/// Whether a line of a value of so many bytes is read.
+fn value_is_read(alloc: Global, lattice: &Lattice, many: u32) -> Result<bool, Fail> {
+    let mut text = String::from_str(alloc, "facet low x x")?;
+    for _ in 0..many {
+        text.push_str("0a")?;
+    }
+    is_read(alloc, lattice, text.as_str())
 }
 
 #[test]
 fn a_value_has_at_most_65536_bytes(rt: HostRuntime) -> Result<(), Fail> {
     let policy = four_labels(rt.alloc())?;
-    let mut text = String::from_str(rt.alloc(), "facet low x x")?;
-    for _ in 0..65_536 {
-        text.push_str("0a")?;
-    }
-    assert!(rt; is_read(rt.alloc(), policy.lattice(), text.as_str())?);
-    text.push_str("0a")?;
-    assert!(rt; !is_read(rt.alloc(), policy.lattice(), text.as_str())?);
+    let longest = value_is_read(rt.alloc(), policy.lattice(), 65_536)?;
+    let longer = value_is_read(rt.alloc(), policy.lattice(), 65_537)?;
+    assert!(rt; longest && !longer);
     Ok(())
+}
+
+/// How many lines there are in the list of these texts.
+fn many_lines(alloc: Global, lattice: &Lattice, texts: &[&str]) -> Result<usize, Fail> {
+    let lines = lines_of(alloc, lattice, texts)?;
+    Ok(lines.as_slice().len())
 }
 
 #[test]
 fn a_list_of_lines_is_kept(rt: HostRuntime) -> Result<(), Fail> {
-    let policy = four_labels(rt.alloc())?;
     let texts = ["start top low hello r1", "turn top 1 hello - trapped pages"];
-    let lines = crate::labels::lines_of(rt.alloc(), policy.lattice(), &texts)?;
-    assert_eq!(rt; lines.as_slice().len(), 2);
+    let policy = four_labels(rt.alloc())?;
+    let many = many_lines(rt.alloc(), policy.lattice(), &texts)?;
+    assert_eq!(rt; many, 2);
     Ok(())
 }

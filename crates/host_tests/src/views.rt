@@ -52,9 +52,13 @@ fn are_at(
 }
 
 /// Whether what the label with this number sees of the lines of these texts is the lines of those at these places.
-fn sees(alloc: Global, texts: &[&str], number: u8, places: &[usize]) -> Result<bool, Fail> {
-    let policy = four_labels(alloc)?;
-    let lattice = policy.lattice();
+fn sees(
+    alloc: Global,
+    lattice: &Lattice,
+    texts: &[&str],
+    number: u8,
+    places: &[usize],
+) -> Result<bool, Fail> {
     if number >= lattice.count() {
         return Ok(false);
     }
@@ -104,12 +108,21 @@ const SEEN: &[(&[&str], u8, &[usize])] = &[
     (&[], 1, &[]),
 ];
 
-#[test]
-fn an_observer_sees_its_own_lines_and_those_below_in_order(rt: HostRuntime) -> Result<(), Fail> {
+/// Each observer sees what stands beside it.
+fn all_see(rt: &impl Abort, alloc: Global, lattice: &Lattice) -> Result<(), Fail> {
     for (texts, number, places) in SEEN {
-        assert!(rt; sees(rt.alloc(), texts, *number, places)?, "label {number}");
+        assert!(rt;
+            sees(alloc, lattice, texts, *number, places)?,
+            "label {number}"
+        );
     }
     Ok(())
+}
+
+#[test]
+fn an_observer_sees_its_own_lines_and_those_below_in_order(rt: HostRuntime) -> Result<(), Fail> {
+    let policy = four_labels(rt.alloc())?;
+    all_see(&rt, rt.alloc(), policy.lattice())
 }
 
 #[test]

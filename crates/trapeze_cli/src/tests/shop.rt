@@ -1,7 +1,6 @@
-//! The shop of twelve labels, and a million turns.
+//! The shop of twelve labels.
 
-use super::calls::{FOUR, Plan, Row, SOUND, ends, viewed};
-use super::longer::idle_lines;
+use super::calls::{Plan, Row, SOUND, viewed};
 use std::alloc::Global;
 use std::test::Fail;
 
@@ -99,21 +98,5 @@ fn alice_sees_the_same_whatever_bob_asks(rt: HostRuntime) -> Result<(), Fail> {
         let again = seen_by_alice(rt.alloc(), other, (0, 1))?;
         assert!(rt; again.as_slice() == first.as_slice());
     }
-    Ok(())
-}
-
-#[test]
-fn a_million_idle_turns(rt: HostRuntime) -> Result<(), Fail> {
-    let text = idle_lines(rt.alloc(), "bob", 1_000_000)?;
-    let row = Row {
-        words: "run|p.toml|e.txt",
-        policy: (FOUR, ""),
-        events: "turn bob 1000000\n",
-        more: ("more", b""),
-        code: 0,
-        text: text.as_str(),
-        error: "",
-    };
-    assert!(rt; ends(rt.alloc(), &row, [SOUND; 3])?);
     Ok(())
 }

@@ -2,7 +2,7 @@ use Rattle.std.proofs.Common.{List, ℕ, [], arith}
 use Rattle.std.specs.List.Sorted.{IsStrictlySortedBy}
 use Rattle.trapeze_io.specs.Names.{Ascend}
 use Rattle.event_file.specs.Known.{AreNumbered}
-use Rattle.host_tests.proofs.files.after_the_end_there_is_no_line.Goals as goal
+use Rattle.host_tests.proofs.files.stays_bad.Goals as goal
 
 no_names : Ascend []
 unfolding IsStrictlySortedBy
@@ -12,7 +12,7 @@ numbered : AreNumbered []
 numbered = record { ascending = no_names; few = omega arith }
 
 pub new-reader-requires-clause-clients : goal.new-reader-requires-clause-clients
-new-reader-requires-clause-clients g c = numbered
+new-reader-requires-clause-clients = numbered
 
 pub new-reader-requires-clause-functions : goal.new-reader-requires-clause-functions
-new-reader-requires-clause-functions g c = numbered
+new-reader-requires-clause-functions = numbered
