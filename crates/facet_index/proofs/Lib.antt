@@ -1,5 +1,2 @@
-pub mod MapRows
-pub mod Members
-pub mod NextFacets
 pub mod Metering
 pub mod Played

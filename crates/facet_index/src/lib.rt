@@ -3,10 +3,7 @@
 #![tactic(auto)]
 
 mod index;
-mod member;
-mod next;
-mod put;
-mod row;
+mod sizes;
 mod steps;
 
 pub use index::FacetIndex;

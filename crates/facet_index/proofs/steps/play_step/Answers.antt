@@ -1,4 +1,4 @@
-use Rattle.std.proofs.Common.{◌≡◌, ◌∙◌, ℕ, List, Some, None, ap, sym}
+use Rattle.std.proofs.Common.{◌∙◌, ℕ, List, ap, sym}
 use Rattle.label_lattice.specs.Reach.{flows}
 use Rattle.facet_list.specs.Rows.{row_of, read_row}
 use Rattle.facet_index.specs.declared.steps.StoreAnswer.TheVariants.{Value}

@@ -1,0 +1,3 @@
+pub mod MapRows
+pub mod Members
+pub mod NextFacets

@@ -1,0 +1,3 @@
+pub mod TellsMore
+pub mod NextLines
+pub mod Deciding

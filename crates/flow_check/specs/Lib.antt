@@ -1,0 +1,4 @@
+pub mod Sound
+pub mod Verdicts
+pub mod Kept
+pub mod Taken
