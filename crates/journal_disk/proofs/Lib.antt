@@ -1,0 +1,5 @@
+pub mod Runs
+pub mod Throughs
+pub mod Noted
+pub mod Picks
+pub mod Untold

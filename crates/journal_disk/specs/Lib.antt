@@ -1,0 +1,4 @@
+pub mod Moments
+pub mod Stops
+pub mod Recorded
+pub mod Untold

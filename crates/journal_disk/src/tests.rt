@@ -1,0 +1,1 @@
+//! Disks in memory, and the system's, with ample memory.
