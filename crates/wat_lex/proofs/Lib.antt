@@ -1,0 +1,9 @@
+pub mod Walk
+pub mod Passing
+pub mod Sentenced
+pub mod Bytes
+pub mod Splits
+pub mod Faulty
+pub mod Found
+pub mod Slices
+pub mod Told

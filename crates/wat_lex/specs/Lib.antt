@@ -1,0 +1,4 @@
+pub mod Classes
+pub mod Sentences
+pub mod Lexing
+pub mod Answers
