@@ -1,1 +1,0 @@
-//! Disks in memory, and the system's, with ample memory.
