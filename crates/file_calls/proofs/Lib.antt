@@ -1,0 +1,4 @@
+pub mod OneFile
+pub mod StepsInTurn
+pub mod OneThing
+pub mod CallsInTurn
