@@ -12,7 +12,7 @@ numbered : AreNumbered []
 numbered = record { ascending = no_names; few = omega arith }
 
 pub new-reader-requires-clause-clients : goal.new-reader-requires-clause-clients
-new-reader-requires-clause-clients = numbered
+new-reader-requires-clause-clients c = numbered
 
 pub new-reader-requires-clause-functions : goal.new-reader-requires-clause-functions
-new-reader-requires-clause-functions = numbered
+new-reader-requires-clause-functions c = numbered
