@@ -8,5 +8,5 @@ use wasm_decode::DecodeError;
 fn bytes_of_no_function_have_their_line(rt: HostRuntime) {
     let mut err = MemSink::new(rt.alloc());
     report_decode(&mut err, DecodeError::Malformed(82));
-    assert!(rt; err.written() == b"module: malformed 82\n");
+    assert!(rt; err.written() == b"module: malformed 82\n".as_slice());
 }
