@@ -4,7 +4,9 @@ use crate::played::{Part, decoded, joined};
 use crate::worked::{BUILT, ECHO, FILL, FLOAT, GIVE, LIFT, LOOK, SPIN, STORE, TWIN};
 use std::alloc::Global;
 use std::test::Fail;
-use wasm_ast::{Export, ExportKind, Import, ImportKind, Instr, Module, ValType};
+use wasm_ast::{
+    Export, ExportKind, GlobalVar, Import, ImportKind, Instr, MemoryType, Module, Table, ValType,
+};
 use wasm_decode::DecodeError;
 
 /// How many types, imports, functions, tables, memories, globals, exports, element and data segments there are, and how many
@@ -31,6 +33,12 @@ fn shape(module: &Module) -> [usize; 11] {
     ]
 }
 
+/// Whether the bytes spell a module with these numbers.
+fn has_shape(alloc: Global, bytes: &[u8], want: &[usize; 11]) -> Result<bool, DecodeError> {
+    let module = decoded(alloc, bytes)?;
+    Ok(shape(&module) == *want)
+}
+
 static SHAPES: [(&[u8], [usize; 11]); 10] = [
     (ECHO, [3, 2, 1, 0, 1, 0, 1, 0, 0, 5, 0]),
     (BUILT, [3, 2, 1, 1, 1, 1, 2, 0, 0, 5, 0]),
@@ -47,8 +55,7 @@ static SHAPES: [(&[u8], [usize; 11]); 10] = [
 #[test]
 fn the_worked_modules_are_decoded(rt: HostRuntime) -> Result<(), Fail> {
     for (bytes, want) in &SHAPES {
-        let module = decoded(rt.alloc(), bytes)?;
-        assert!(rt; shape(&module) == *want);
+        assert!(rt; has_shape(rt.alloc(), bytes, want)?);
     }
     Ok(())
 }
@@ -100,19 +107,28 @@ fn a_reply_with_the_input_is_decoded(rt: HostRuntime) -> Result<(), Fail> {
     Ok(())
 }
 
-/// Whether it has a table, 17 pages and a global that can be set.
+fn is_single(table: &Table) -> bool {
+    table.minimum() == 1 && table.maximum() == Some(1)
+}
+
+fn has_17_pages(memory: &MemoryType) -> bool {
+    memory.minimum() == 17 && memory.maximum().is_none()
+}
+
+/// Whether it can be set, and is 1,048,576 at first.
+fn is_a_place(global: &GlobalVar) -> bool {
+    global.val_type() == ValType::I32
+        && global.mutable()
+        && matches!(global.initial().items(), [Instr::I32Const(1048576)])
+}
+
+/// Whether it has a table of one entry, 17 pages and a global that can be set.
 fn is_built(module: &Module) -> bool {
     let ([table], [memory], [global]) = (module.tables(), module.memories(), module.globals())
     else {
         return false;
     };
-    table.minimum() == 1
-        && table.maximum() == Some(1)
-        && memory.minimum() == 17
-        && memory.maximum().is_none()
-        && global.val_type() == ValType::I32
-        && global.mutable()
-        && matches!(global.initial().items(), [Instr::I32Const(1048576)])
+    is_single(table) && has_17_pages(memory) && is_a_place(global)
 }
 
 #[test]
@@ -461,7 +477,6 @@ fn the_first_fault_of_a_whole_file_is_found(rt: HostRuntime) -> Result<(), Fail>
 fn the_longest_file_is_decoded(rt: HostRuntime) -> Result<(), Fail> {
     let custom = (&b"\x00\xf3\xff\xff\x01"[..], 1);
     let bytes = joined(rt.alloc(), &[HEADER, custom, (b"\x00", 4_194_291)])?;
-    let module = decoded(rt.alloc(), bytes.as_slice())?;
-    assert!(rt; shape(&module) == [0; 11]);
+    assert!(rt; has_shape(rt.alloc(), bytes.as_slice(), &[0; 11])?);
     Ok(())
 }

@@ -4,7 +4,7 @@ ghost use Rattle.std.specs.Prelude.{◌≡◌, OnOk};
 ghost use Rattle.wasm_exec.specs.Machines.{IsReady};
 
 use crate::codes;
-use crate::played::{answer_to, valid};
+use crate::played::{Part, answer_to, valid};
 use crate::runs::{
     BRANCHING, CALLED, EXTENDED, End, GROWING, MIXED, Row, SINKING, STARTED, TRAPS, WORKED,
 };
@@ -200,16 +200,18 @@ fn an_endless_loop_uses_all_its_units(rt: HostRuntime) -> Result<(), Fail> {
     Ok(())
 }
 
+/// The parts of its module.
+static STARTED_PARTS: [Part; 5] = [
+    (codes::FRONT, 1),
+    (codes::START, 1),
+    (codes::ELEMENTS, 1),
+    (codes::STARTED, 1),
+    (codes::DATA, 1),
+];
+
 #[test]
 fn a_start_function_runs_before_handle(rt: HostRuntime) -> Result<(), Fail> {
-    let parts = [
-        (codes::FRONT, 1),
-        (codes::START, 1),
-        (codes::ELEMENTS, 1),
-        (codes::STARTED, 1),
-        (codes::DATA, 1),
-    ];
-    let module = valid(rt.alloc(), &parts)?;
+    let module = valid(rt.alloc(), &STARTED_PARTS)?;
     assert!(rt; comes(rt.alloc(), &module, &STARTED, 4, 1_000)?);
     Ok(())
 }

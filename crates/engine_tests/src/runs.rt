@@ -5,7 +5,7 @@ use wasm_ast::HostName;
 use wasm_exec::Trap;
 
 /// How a thread ends.
-#[derive(Clone, Copy, Debug, PartialEq, Eq)]
+#[derive(Clone, Copy, PartialEq, Eq)]
 pub(crate) enum End {
     Done,
     Trapped(Trap),

@@ -81,11 +81,15 @@ fn begins_anew(alloc: Global, module: &ValidModule) -> Result<bool, Fail> {
     Ok(is_first && suspended.put(4, b"earlier").is_ok())
 }
 
+/// Whether each of two new sandboxes has it.
+fn begin_anew(alloc: Global, module: &ValidModule) -> Result<bool, Fail> {
+    Ok(begins_anew(alloc, module)? && begins_anew(alloc, module)?)
+}
+
 #[test]
 fn a_fresh_memory_is_that_of_the_module(rt: HostRuntime) -> Result<(), Fail> {
     let module = module_of(rt.alloc(), codes::ECHO)?;
-    assert!(rt; begins_anew(rt.alloc(), &module)?);
-    assert!(rt; begins_anew(rt.alloc(), &module)?);
+    assert!(rt; begin_anew(rt.alloc(), &module)?);
     Ok(())
 }
 
@@ -163,21 +167,27 @@ fn ended(module: &ValidModule, sandbox: Sandbox) -> Option<Went>
     Some(sandbox.go(module, 256, 9))
 }
 
+/// Whether it ends then, with one unit more.
+fn ends(alloc: Global, module: &ValidModule) -> Result<bool, Fail> {
+    match fresh(alloc, module, 256)? {
+        Some(sandbox) => Ok(is_done(ended(module, sandbox))),
+        None => Ok(false),
+    }
+}
+
+fn is_done(went: Option<Went>) -> bool {
+    matches!(
+        went,
+        Some(Went {
+            used: 1,
+            going: Going::Done
+        })
+    )
+}
+
 #[test]
 fn what_it_asks_and_how_it_ends(rt: HostRuntime) -> Result<(), Fail> {
     let module = module_of(rt.alloc(), codes::ECHO)?;
-    let Some(sandbox) = fresh(rt.alloc(), &module, 256)? else {
-        panic!(rt; "too few pages");
-    };
-    let went = ended(&module, sandbox);
-    assert!(rt;
-        matches!(
-            went,
-            Some(Went {
-                used: 1,
-                going: Going::Done
-            })
-        )
-    );
+    assert!(rt; ends(rt.alloc(), &module)?);
     Ok(())
 }

@@ -4,7 +4,7 @@ use crate::codes;
 use crate::played::{decoded, joined};
 use std::alloc::Global;
 use std::test::Fail;
-use wasm_ast::{Body, FuncType, ImportKind, Instr, MemoryType, Module, NoMemory, Seq, Table};
+use wasm_ast::{Body, FuncType, ImportKind, Instr, MemoryType, Module, NoMemory, Seq};
 use wasm_typing::{function_type, imported_type_of, is_typed, memory_in, own_type_at, table_in};
 
 /// A module that imports the nine host calls.
@@ -35,7 +35,10 @@ fn an_opcode_that_is_no_operator_has_no_typing(rt: HostRuntime) -> Result<(), Fa
 
 /// How many parameters a type has.
 fn params(found: Option<&FuncType>) -> Option<usize> {
-    found.map(|func_type| func_type.params().len())
+    match found {
+        Some(func_type) => Some(func_type.params().len()),
+        None => None,
+    }
 }
 
 /// Whether functions are found by their index, of which imports count first.
@@ -52,8 +55,10 @@ fn finds_functions(module: &Module) -> bool {
 
 /// Whether its table and its memory are found.
 fn finds_limits(module: &Module) -> bool {
-    table_in(module).map(Table::minimum) == Some(3)
-        && memory_in(module).map(MemoryType::maximum) == Some(Some(3))
+    match (table_in(module), memory_in(module)) {
+        (Some(table), Some(memory)) => table.minimum() == 3 && memory.maximum() == Some(3),
+        _ => false,
+    }
 }
 
 #[test]
